@@ -1,0 +1,11 @@
+pub mod Keys
+pub mod Meaning
+pub mod Run
+pub mod Laws
+pub mod Journal
+pub mod Pairs
+pub mod Views
+pub mod Rule
+pub mod Steps
+pub mod Inside
+pub mod Counter

@@ -1,0 +1,5 @@
+pub mod Entries
+pub mod SmallCases
+pub mod LineSteps
+pub mod Lines
+pub mod TestLines

@@ -1,0 +1,13 @@
+pub mod Cases
+pub mod Config
+pub mod Examples
+pub mod Lawful
+pub mod Line
+pub mod Path
+pub mod Probability
+pub mod Progress
+pub mod Redex
+pub mod Step
+pub mod Strokes
+pub mod Substitution
+pub mod Teleportation

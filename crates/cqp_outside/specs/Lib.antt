@@ -1,0 +1,6 @@
+pub mod Calls
+pub mod Causes
+pub mod Feed
+pub mod ReadEnd
+pub mod Taken
+pub mod Tray

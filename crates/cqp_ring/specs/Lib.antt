@@ -1,0 +1,3 @@
+pub mod Amp
+pub mod Root
+pub mod Weight

@@ -1,0 +1,7 @@
+pub mod Answered
+pub mod Decoding
+pub mod Finished
+pub mod Forms
+pub mod Letters
+pub mod LoneWords
+pub mod Sketches

@@ -1,0 +1,4 @@
+pub mod Gate
+pub mod Measurement
+pub mod State
+pub mod Vector
