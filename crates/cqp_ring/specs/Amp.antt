@@ -1,5 +1,5 @@
 -- Numerators: a + b w + c w^2 + d w^3 with w^4 = -1. The parts are whole numbers without bounds.
-use Rattle.std.specs.Prelude.{ℕ, zero, suc, pos, ◌+ℤ◌, ◌-ℤ◌, ◌*ℤ◌, FitsSigned}
+use Rattle.std.specs.Prelude.{◌≡◌, ℕ, zero, suc, ◌%◌, ℤ, pos, negsuc, nat_abs, ◌+ℤ◌, ◌-ℤ◌, ◌*ℤ◌, FitsSigned}
 use Rattle.std.specs.Int.{w128}
 use Rattle.cqp_ring.specs.declared.amp.Amp.{Amp}
 
@@ -38,6 +38,23 @@ amp_negative x = amp_difference zero_amp x
 abbrev pub w_power : ℕ → Amp
 w_power zero = one_amp
 w_power (suc k) = amp_product w_amp (w_power k)
+
+-- root 2, which is w - w^3
+abbrev pub root2_amp : Amp
+root2_amp = record { a = pos 0; b = pos 1; c = pos 0; d = negsuc 0 }
+
+-- root 2 times an element of the ring
+abbrev pub IsRoot2Times : Amp → Type 0
+IsRoot2Times x = (y : Amp) × (amp_product root2_amp y ≡ x)
+
+-- both numbers are even, or both are odd
+abbrev pub IsSameParity : ℤ → ℤ → Type 0
+IsSameParity x y = nat_abs x % 2 ≡ nat_abs y % 2
+
+-- a and c have one parity, and b and d have one parity
+pub record HasParities (x : Amp) : Type 0 where
+  pub a_c : IsSameParity x.a x.c
+  pub b_d : IsSameParity x.b x.d
 
 -- each part fits in 128 bits
 pub record AmpFits (x : Amp) : Type 0 where

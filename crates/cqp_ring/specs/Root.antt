@@ -1,5 +1,6 @@
 -- Norms: p + q root 2. The parts are whole numbers without bounds.
-use Rattle.std.specs.Prelude.{◌≡◌, ◌⊎◌, ℕ, ℤ, pos, neg_ℤ, ◌+ℤ◌, ◌-ℤ◌, ◌*ℤ◌, ◌≤ℤ◌, ◌<ℤ◌, ◌<◌, List, [], ◌∷◌, length, slice_index_or}
+use Rattle.std.specs.Prelude.{◌≡◌, ◌≢◌, ◌⊎◌, ℕ, ℤ, pos, neg_ℤ, ◌+ℤ◌, ◌-ℤ◌, ◌*ℤ◌, ◌≤ℤ◌, ◌<ℤ◌, ◌<◌, List, [], ◌∷◌, length, slice_index_or, FitsSigned}
+use Rattle.std.specs.Int.{w128}
 use Rattle.cqp_ring.specs.declared.amp.Amp.{Amp}
 use Rattle.cqp_ring.specs.declared.root.Root.{Root}
 
@@ -16,6 +17,14 @@ one_root = whole_root (pos 1)
 -- the sum
 abbrev pub root_sum : Root → Root → Root
 root_sum x y = record { p = x.p +ℤ y.p; q = x.q +ℤ y.q }
+
+-- the negative
+abbrev pub root_negative : Root → Root
+root_negative x = record { p = neg_ℤ x.p; q = neg_ℤ x.q }
+
+-- the difference
+abbrev pub root_difference : Root → Root → Root
+root_difference x y = record { p = x.p -ℤ y.p; q = x.q -ℤ y.q }
 
 -- the product
 abbrev pub root_product : Root → Root → Root
@@ -46,6 +55,25 @@ IsAtLeastZero x = ((pos 0 ≤ℤ x.p) × (pos 0 ≤ℤ x.q))
 -- x is at most y
 abbrev pub IsAtMost : Root → Root → Type 0
 IsAtMost x y = IsAtLeastZero (record { p = y.p -ℤ x.p; q = y.q -ℤ x.q })
+
+-- p + q root 2 is greater than 0: it is at least 0, and isn't 0
+pub record IsAboveZero (x : Root) : Type 0 where
+  pub at_least : IsAtLeastZero x
+  pub other : x ≢ zero_root
+
+-- x is less than y
+abbrev pub IsLess : Root → Root → Type 0
+IsLess x y = IsAboveZero (root_difference y x)
+
+-- the sum of a list
+abbrev pub root_total : List Root → Root
+root_total [] = zero_root
+root_total (x ∷ xs) = root_sum x (root_total xs)
+
+-- both parts fit in 128 bits
+pub record RootFits (x : Root) : Type 0 where
+  pub p_fits : FitsSigned w128 x.p
+  pub q_fits : FitsSigned w128 x.q
 
 -- the norm at a place, or 0
 abbrev pub root_at : List Root → ℕ → Root

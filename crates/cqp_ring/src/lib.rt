@@ -2,11 +2,19 @@
 #![tactic(auto)]
 
 mod amp;
+mod halves;
+mod laws;
+mod products;
 mod root;
+mod sign;
 #[cfg(test)]
 mod tests;
+mod text;
 mod weight;
 
 pub use amp::Amp;
+pub use laws::{list_laws, norm_laws, order_laws, ring_laws, sign_laws, weight_laws};
 pub use root::Root;
+pub use sign::Sign;
+pub use text::weight_text;
 pub use weight::Weight;

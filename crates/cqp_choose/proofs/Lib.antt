@@ -1,0 +1,2 @@
+pub mod OddsLemmas
+pub mod BornLemmas

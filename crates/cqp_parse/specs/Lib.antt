@@ -1,0 +1,16 @@
+pub mod Canonical
+pub mod CanonicalText
+pub mod CanonicalTrees
+pub mod Cases
+pub mod Completes
+pub mod Examples
+pub mod Firsts
+pub mod Grammar
+pub mod Moves
+pub mod Pieces
+pub mod Places
+pub mod Prefixes
+pub mod Spelling
+pub mod Stacks
+pub mod Texts
+pub mod Trees

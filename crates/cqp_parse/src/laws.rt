@@ -1,0 +1,32 @@
+//! Laws of the grammar. Each call does nothing, and its contract is the law.
+
+ghost use Rattle.std.specs.Prelude.{◌≡◌, ◌⊎◌, ℕ, List, true};
+ghost use Rattle.cqp_parse.specs.declared.token.Token.{Token};
+ghost use Rattle.cqp_parse.specs.Trees.{ProgramTree};
+ghost use Rattle.cqp_parse.specs.Grammar.{IsProgram};
+ghost use Rattle.cqp_parse.specs.Prefixes.{BeginsProgram, StandsFor, is_shallow};
+ghost use Rattle.cqp_parse.specs.Canonical.{program_tokens};
+ghost use Rattle.cqp_parse.specs.CanonicalText.{canonical};
+ghost use Rattle.cqp_parse.specs.CanonicalTrees.{IsPrintable, SameButOffsets};
+
+/// Tokens are at most one program, and a text stands for at most one.
+pub fn one_reading()
+    ensures tokens { (ts : List Token) (t u : ProgramTree) → IsProgram ts t → IsProgram ts u → t ≡ u }
+    ensures text { (text : List ℕ) (t u : ProgramTree) → StandsFor text t → StandsFor text u → t ≡ u }
+{}
+
+/// Tokens begin a program or they don't, which is found token by token.
+pub fn prefixes_are_decided()
+    ensures { (ts : List Token) → BeginsProgram ts ⊎ (BeginsProgram ts → ⊥) }
+{}
+
+/// Canonical text within 100 open brackets is read, and gives the printed program but for offsets.
+/// Each program that was read has such a text, and offsets don't change it.
+pub fn canonical_text()
+    ensures stands { (t : ProgramTree) → IsPrintable t → is_shallow 0 (program_tokens t) ≡ true
+        → (u : ProgramTree) × StandsFor (canonical t) u }
+    ensures back { (t : ProgramTree) → IsPrintable t → is_shallow 0 (program_tokens t) ≡ true
+        → (u : ProgramTree) → StandsFor (canonical t) u → SameButOffsets u t }
+    ensures printable { (text : List ℕ) (t : ProgramTree) → StandsFor text t → IsPrintable t }
+    ensures offsets { (t u : ProgramTree) → SameButOffsets t u → canonical t ≡ canonical u }
+{}

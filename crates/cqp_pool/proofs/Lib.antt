@@ -1,0 +1,13 @@
+pub mod Sums
+pub mod Steps
+pub mod Changes
+pub mod Reaches
+pub mod Gives
+pub mod Left
+pub mod Rows
+pub mod Seats
+pub mod Zips
+pub mod Orders
+pub mod Aparts
+pub mod AllIn
+pub mod Places

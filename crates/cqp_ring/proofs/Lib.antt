@@ -1,0 +1,11 @@
+pub mod HalfLemmas
+pub mod Integers
+pub mod ListLemmas
+pub mod NormLemmas
+pub mod OrderLemmas
+pub mod OrderProducts
+pub mod OrderSums
+pub mod SignLemmas
+pub mod Turns
+pub mod WeightLemmas
+pub mod Wraps
