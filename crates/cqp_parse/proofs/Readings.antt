@@ -64,7 +64,7 @@ pub one_tree : (ts : List Token) (t u : ProgramTree) → IsProgram ts t → IsPr
 one_tree ts t u h g = one_completed (definitions []) ts t u (whole_program t ts h) (whole_program u ts g)
 
 -- what begins a program begins with what begins a program
-begins_before : (done : List Token) (tok : Token) (more : List Token) → BeginsProgram (done ++ tok ∷ more) → BeginsProgram (done ++ tok ∷ [])
+pub begins_before : (done : List Token) (tok : Token) (more : List Token) → BeginsProgram (done ++ tok ∷ more) → BeginsProgram (done ++ tok ∷ [])
 begins_before done tok more b = record {
   more = more ++ b.more;
   tree = b.tree;

@@ -4,7 +4,9 @@ ghost use Rattle.std.specs.Prelude.{◌≡◌, ◌⊎◌, ℕ, List, true};
 ghost use Rattle.cqp_parse.specs.declared.token.Token.{Token};
 ghost use Rattle.cqp_parse.specs.Trees.{ProgramTree};
 ghost use Rattle.cqp_parse.specs.Grammar.{IsProgram};
+ghost use Rattle.cqp_parse.specs.Texts.{Lexes};
 ghost use Rattle.cqp_parse.specs.Prefixes.{BeginsProgram, StandsFor, is_shallow};
+ghost use Rattle.cqp_parse.specs.Refusals.{IsDeep, IsRefused, Outcome};
 ghost use Rattle.cqp_parse.specs.Canonical.{program_tokens};
 ghost use Rattle.cqp_parse.specs.CanonicalText.{canonical};
 ghost use Rattle.cqp_parse.specs.CanonicalTrees.{IsPrintable, SameButOffsets};
@@ -29,4 +31,15 @@ pub fn canonical_text()
         → (u : ProgramTree) → StandsFor (canonical t) u → SameButOffsets u t }
     ensures printable { (text : List ℕ) (t : ProgramTree) → StandsFor text t → IsPrintable t }
     ensures offsets { (t u : ProgramTree) → SameButOffsets t u → canonical t ≡ canonical u }
+{}
+
+/// A text has one outcome: it stands for a program, or it is refused at a token, or it is too deep
+/// at one. So the offset of a refusal is that of one token, and it comes for one reason.
+pub fn outcomes()
+    ensures some { (text : List ℕ) (ts : List Token) → Lexes 0 text ts → Outcome text }
+    ensures read { (text : List ℕ) (t : ProgramTree) (at : ℕ) → StandsFor text t
+        → (IsRefused text at → ⊥) × (IsDeep text at → ⊥) }
+    ensures refused { (text : List ℕ) (at n : ℕ) → IsRefused text at → IsRefused text n → at ≡ n }
+    ensures deep { (text : List ℕ) (at n : ℕ) → IsDeep text at → IsDeep text n → at ≡ n }
+    ensures either { (text : List ℕ) (at n : ℕ) → IsRefused text at → IsDeep text n → ⊥ }
 {}

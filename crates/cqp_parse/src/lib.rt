@@ -14,6 +14,6 @@ mod token;
 
 pub use cases::{empty_text, groups, measured_items, measured_refusals};
 pub use cqp_outside::NoMemory;
-pub use laws::{canonical_text, one_reading, prefixes_are_decided};
+pub use laws::{canonical_text, one_reading, outcomes, prefixes_are_decided};
 pub use lexer::tokens;
 pub use token::{Reserved, Symbol, Token};

@@ -176,6 +176,7 @@ fn laws_are_called(rt: HostRuntime) -> Result<(), Fail> {
     one_reading();
     prefixes_are_decided();
     canonical_text();
+    outcomes();
     measured_items();
     measured_refusals();
     groups();
