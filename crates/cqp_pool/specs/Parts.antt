@@ -36,6 +36,7 @@ AddsUp number k = AddUp k.pushed k.taken (map number k.items)
 abbrev pub new_own : ℕ → DequeId → Owned
 new_own parts id = record { deque = id; view = new_tally parts }
 
+-- such an owner of each deque
 abbrev pub new_owns : ℕ → List DequeId → List Owned
 new_owns parts ids = map (λ (id : DequeId). new_own parts id) ids
 
@@ -46,7 +47,10 @@ lend o = record { deque = o.deque; view = tally (o.view.parts - 1) o.view.pushed
 -- the owner after one way in was taken in
 abbrev pub takes_in : Owned → Reached → Owned
 takes_in o r =
-    record { deque = o.deque; view = tally (o.view.parts + 1) o.view.pushed (o.view.taken ++ r.taken) }
+    record {
+      deque = o.deque;
+      view = tally (o.view.parts + 1) o.view.pushed (o.view.taken ++ r.taken);
+    }
 
 -- each owner after its way in was taken in
 abbrev pub zip_in : List Owned → List Reached → List Owned
@@ -54,9 +58,11 @@ zip_in [] rs = []
 zip_in (o ∷ os) [] = o ∷ os
 zip_in (o ∷ os) (r ∷ rs) = takes_in o r ∷ zip_in os rs
 
+-- which deques these are
 abbrev pub deques_in : List Owned → List DequeId
 deques_in os = map (λ (o : Owned). o.deque) os
 
+-- which deques a row leads to
 abbrev pub deques_of : List Reached → List DequeId
 deques_of rs = map (λ (r : Reached). r.deque) rs
 
@@ -102,16 +108,20 @@ module _ {T : Type 0} (own door : Tally) (kept : Log T) where
 abbrev pub IsSettled : Owned → Type 0
 IsSettled o = (o.view.parts ≡ 1024) × Covers o.view
 
+-- the numbers that the owners pushed
 abbrev pub pushed_in : List Owned → List ℕ
 pushed_in os = flat_map (λ (o : Owned). o.view.pushed) os
 
+-- the numbers that the owners took
 abbrev pub taken_in : List Owned → List ℕ
 taken_in os = flat_map (λ (o : Owned). o.view.taken) os
 
 module _ {T : Type 0} where
+  -- the numbers that went into what is kept
   abbrev pub pushed_kept : List (Log T) → List ℕ
   pushed_kept ks = flat_map (λ (k : Log T). k.pushed) ks
 
+  -- the numbers that went out of it
   abbrev pub taken_kept : List (Log T) → List ℕ
   taken_kept ks = flat_map (λ (k : Log T). k.taken) ks
 

@@ -50,6 +50,7 @@ module _ {T : Type 0} where
   abbrev pub MayGive : T → List T → List T → Type 0
   MayGive x old new = (new ≡ old) ⊎ (old ≡ new ++ x ∷ [])
 
+  -- the lanes' numbers in their pool
   abbrev pub numbers_of : List (LaneState T) → List ℕ
   numbers_of lanes = map (λ (l : LaneState T). l.number) lanes
 

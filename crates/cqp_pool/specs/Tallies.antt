@@ -6,6 +6,7 @@ use lib.ListN.{get_elem?}
 use Rattle.cqp_pool.specs.declared.tally.Tally.{Tally}
 use Rattle.cqp_pool.specs.Often.{AsOften, IsWithin}
 
+-- what a pass knows
 abbrev pub tally : ℕ → List ℕ → List ℕ → Tally
 tally parts pushed taken = record { parts = parts; pushed = pushed; taken = taken }
 

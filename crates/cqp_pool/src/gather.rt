@@ -38,17 +38,26 @@ impl<T: Numbered> PoolParts<T> {
         })
     }
 
-    /// Adds what one lane leaves behind. It takes no memory.
-    fn add(&mut self, own: Own<T>, row: Vec<Reach<T>>, kept: Kept<T>)
+    /// Adds what one lane leaves behind, and gives its way into the shared queue. It takes no
+    /// memory.
+    fn add(&mut self, lane: LaneParts<T>) -> Door<T>
         requires { HasRoom self.old 1 }
-        ensures owns { self.new.owns.items ≡ self.old.owns.items ++ own ∷ [] }
-        ensures rows { self.new.rows.items ≡ self.old.rows.items ++ row ∷ [] }
-        ensures kepts { self.new.kepts.items ≡ self.old.kepts.items ++ kept ∷ [] }
+        ensures door { result ≡ lane.door }
+        ensures owns { self.new.owns.items ≡ self.old.owns.items ++ lane.own ∷ [] }
+        ensures rows { self.new.rows.items ≡ self.old.rows.items ++ lane.row ∷ [] }
+        ensures kepts { self.new.kepts.items ≡ self.old.kepts.items ++ lane.kept ∷ [] }
         ensures room { (more : ℕ) → HasRoom self.old (more + 1) → HasRoom self.new more }
     {
+        let LaneParts {
+            own,
+            row,
+            door,
+            kept,
+        } = lane;
         self.owns.push_reserved(own);
         self.rows.push_reserved(row);
         self.kepts.push_reserved(kept);
+        door
     }
 }
 
@@ -109,21 +118,9 @@ fn taken_apart<T: Numbered>(mut lanes: Vec<Lane<T>>, room: PoolParts<T>) -> (Poo
         result.0.owns.items result.0.rows.items result.0.kepts.items result.1 }
 {
     let mut parts = room;
-    let LaneParts {
-        own,
-        row,
-        mut door,
-        kept,
-    } = lanes.remove(0).into_parts();
-    parts.add(own, row, kept);
+    let mut door = parts.add(lanes.remove(0).into_parts());
     for lane in lanes {
-        let LaneParts {
-            own,
-            row,
-            door: other,
-            kept,
-        } = lane.into_parts();
-        parts.add(own, row, kept);
+        let other = parts.add(lane.into_parts());
         door.absorb(other);
     }
     (parts, door)

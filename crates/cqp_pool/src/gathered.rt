@@ -52,7 +52,8 @@ impl<T: Numbered> Gathered<T> {
         Gathered { owns, door, kepts }
     }
 
-    /// Takes an item that is still there. `None` exactly where all that was pushed was taken.
+    /// Takes an item that is still there. `None` exactly where all that was pushed was taken. It
+    /// takes no memory.
     pub fn left<R: Wait>(&mut self, rt: &R) -> Option<T>
         ensures taken { IfSome result (λ x. AsOften self.new.taken (T.number x ∷ self.old.taken)) }
         ensures none { IsNone result ↔ AsOften self.old.pushed self.old.taken }

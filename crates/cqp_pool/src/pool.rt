@@ -39,7 +39,7 @@ impl Pool {
     }
 
     /// Takes the passes of all lanes in, so that no lane pushes or pops any more. The lanes may
-    /// stand in any order.
+    /// stand in any order. It takes no memory.
     pub fn gather<T: Numbered, R: Threads + Wait + Sync>(_rt: &R, lanes: Lanes<T>) -> Gathered<T>
         requires { IsWhole lanes }
         ensures pushed { AsOften result.pushed (pushed_by lanes) }

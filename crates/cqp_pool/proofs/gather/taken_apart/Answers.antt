@@ -3,7 +3,9 @@ use Rattle.std.proofs.lemmas.Iterator.Adapters.{YieldsList-from_vec}
 use Rattle.std.proofs.lemmas.Iterator.Consumers.{YieldsList-turn, YieldsList-end}
 use Rattle.std.proofs.lemmas.List.{take_more, length_push, length-take-le}
 use Rattle.std.proofs.Math.Seq.{take-length}
+use Rattle.cqp_pool.specs.Tallies.{tally}
 use Rattle.cqp_pool.specs.Pools.{LaneState}
+use Rattle.cqp_pool.specs.Parts.{Entered}
 use Rattle.cqp_pool.specs.Rooms.{HasRoom}
 use Rattle.cqp_pool.specs.Apart.{IsApart}
 use Rattle.cqp_pool.proofs.Aparts.{apart_first, apart_more, apart_same, same_queue, door_some, next_lane, one_taken}
@@ -16,20 +18,22 @@ loop-lane-init g c =
     let some : 0 < length lanes.items = let a = c.requires.some in let b = lanes.ok.0 in omega arith in
     let first = c.remove.result in
     let here : first ≡ get_or lanes.items 0 first = c.remove.ensures.value in
-    let p = c.into_parts-own.result in
+    let p = c.into_parts.result in
     let room = c.requires.room in
     record {
-      room = c.add.ensures.room (vec_len lanes - 1) (subst (HasRoom {T = g.row.T.Denot} c.args.room) count room.room);
+      room = c.add-door.ensures.room (vec_len lanes - 1) (subst (HasRoom {T = g.row.T.Denot} c.args.room) count room.room);
       apart = λ pool order.
           let number = ap (λ (l : LaneState g.row.T.Denot). l.number) here ∙ order.numbers 0 first some in
           let of_pool = ap (λ (l : LaneState g.row.T.Denot). l.pool) here ∙ order.of_pool 0 first some in
           let few : 0 < length pool.deques = let a = order.count in omega arith in
-          apart_same g.T.Numbered.number pool (first ∷ []) (take 1 lanes.items) (p.own ∷ []) c.add.new.self.owns.items
-          (p.row ∷ []) c.add.new.self.rows.items (p.kept ∷ []) c.add.new.self.kepts.items p.door
+          let IsSo : Entered → Type 0 = IsApart g.T.Numbered.number pool (take 1 lanes.items) c.add-door.new.self.owns.items c.add-door.new.self.rows.items
+          c.add-door.new.self.kepts.items in
+          subst IsSo (sym c.add-door.ensures.door) (apart_same g.T.Numbered.number pool (first ∷ []) (take 1 lanes.items) (p.own ∷ []) c.add-door.new.self.owns.items
+          (p.row ∷ []) c.add-door.new.self.rows.items (p.kept ∷ []) c.add-door.new.self.kepts.items p.door
           (take_more lanes.items 0 first some ∙ ap (λ x. x ∷ []) (sym here))
-          (c.add.ensures.owns ∙ ap (λ l. l ++ p.own ∷ []) room.owns) (c.add.ensures.rows ∙ ap (λ l. l ++ p.row ∷ []) room.rows) (c.add.ensures.kepts
+          (c.add-door.ensures.owns ∙ ap (λ l. l ++ p.own ∷ []) room.owns) (c.add-door.ensures.rows ∙ ap (λ l. l ++ p.row ∷ []) room.rows) (c.add-door.ensures.kepts
           ∙ ap (λ l. l ++ p.kept ∷ []) room.kepts)
-          (apart_first g.T.Numbered.number pool first p.own p.row p.door p.kept c.into_parts-own.ensures of_pool number few);
+          (apart_first g.T.Numbered.number pool first p.own p.row p.door p.kept c.into_parts.ensures of_pool number few));
     }
 
 pub absorb-requires : goal.absorb-requires
@@ -45,13 +49,13 @@ absorb-requires g c =
     let order = c.requires.order.1 in
     let before = c.loop-lane.invariant.apart c.requires.order.0 order in
     let of_pool = ap (λ (l : LaneState g.row.T.Denot). l.pool) next.1 ∙ order.of_pool (length yielded + 1) c.in-Some.lane next.0 in
-    let p = c.into_parts-own-in-loop-lane.result in
-    let parts = c.into_parts-own-in-loop-lane.ensures in
+    let p = c.into_parts-in-loop-lane.result in
+    let parts = c.into_parts-in-loop-lane.ensures in
     let some : 0 < length (take (length yielded + 1) lanes) = let n = next.0 in omega (arith, length-take-le (length yielded + 1) lanes (omega arith)) in
     let number = g.T.Numbered.number in
     let pool = c.requires.order.0 in
     record {
-      queue = same_queue number pool c.in-Some.lane p.own p.row p.door p.kept parts of_pool ∙ sym before.queue;
+      queue = ap (λ (d : Entered). d.queue) c.add-other.ensures.door ∙ same_queue number pool c.in-Some.lane p.own p.row p.door p.kept parts of_pool ∙ sym before.queue;
       part = door_some number pool c.in-Some.lane p.own p.row p.door p.kept parts of_pool (take
           (length yielded + 1) lanes) c.loop-lane.parts.owns.items c.loop-lane.parts.rows.items c.loop-lane.parts.kepts.items c.loop-lane.door before some;
     }
@@ -68,10 +72,12 @@ loop-lane-preserved g c =
     ∙ c.remove.new.self.ok.0)) yielded c.loop-lane.lane-iterator c.loop-lane.yielded_by c.next.result c.next.new.self lane c.in-Some.is
     c.next.ensures.steps in
     let next = next_lane lanes rest (length yielded) lane c.remove.ensures.by_index.2 turn.0 turn.1 in
-    let p = c.into_parts-own-in-loop-lane.result in
+    let p = c.into_parts-in-loop-lane.result in
     let old = c.loop-lane.parts in
-    let new = c.add-in-loop-lane.new.self in
-    let add = c.add-in-loop-lane.ensures in
+    let new = c.add-other.new.self in
+    let add = c.add-other.ensures in
+    let was = c.loop-lane.door.view in
+    let view = ap (λ (d : Entered). tally (was.parts + d.view.parts) (was.pushed ++ d.view.pushed) (was.taken ++ d.view.taken)) add.door in
     let more : length (yielded ++ lane ∷ []) + 1 ≡ k + 1 = ap (λ n. n + 1) (length_push yielded lane) in
     let left : vec_len c.args.lanes - k ≡ vec_len c.args.lanes - (length (yielded ++ lane ∷ []) + 1) + 1 = let a = next.0 in let b = c.args.lanes.ok.0
     in omega arith in
@@ -88,9 +94,9 @@ loop-lane-preserved g c =
           (old.owns.items ++ p.own ∷ []) new.owns.items (old.rows.items ++ p.row ∷ []) new.rows.items
           (old.kepts.items ++ p.kept ∷ []) new.kepts.items c.absorb.new.self
           (ap (λ n. take n lanes) more ∙ take_more lanes k lane next.0 ∙ ap (λ x. take k lanes ++ x ∷ []) (sym next.1)) add.owns add.rows add.kepts
-          (apart_more g.T.Numbered.number pool lane p.own p.row p.door p.kept c.into_parts-own-in-loop-lane.ensures of_pool
+          (apart_more g.T.Numbered.number pool lane p.own p.row p.door p.kept c.into_parts-in-loop-lane.ensures of_pool
           (take k lanes) old.owns.items old.rows.items old.kepts.items
-          c.loop-lane.door c.absorb.new.self before number some in_pool c.absorb.ensures.queue c.absorb.ensures.view);
+          c.loop-lane.door c.absorb.new.self before number some in_pool c.absorb.ensures.queue (c.absorb.ensures.view ∙ view));
     }
 
 pub returns : goal.returns
