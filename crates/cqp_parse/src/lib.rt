@@ -1,19 +1,36 @@
-//! Texts, tokens and the grammar: the reading of a program text and its printing.
+//! The reading of a program text.
 #![tactic(auto)]
 
-mod bytes;
-mod cases;
-mod laws;
-mod lexer;
-mod number;
-mod piece;
-mod spelling;
+mod again;
+mod closing;
+mod definition;
+mod draft;
+mod end;
+mod end_signs;
+mod fragment;
+mod frame;
+#[cfg(test)]
+mod list_tests;
+mod lists;
+mod machine;
+mod names;
+mod parser;
+mod place;
+mod programs;
+mod reading;
+mod signs;
+mod sizes;
+mod standing;
 #[cfg(test)]
 mod tests;
-mod token;
+mod types;
+mod words;
 
-pub use cases::{empty_text, groups, measured_items, measured_refusals};
+pub use again::print_and_parse;
 pub use cqp_outside::NoMemory;
-pub use laws::{canonical_text, one_reading, outcomes, prefixes_are_decided};
-pub use lexer::tokens;
-pub use token::{Reserved, Symbol, Token};
+pub use cqp_print::print;
+pub use cqp_program::{
+    Def, Defs, Occ, Occs, Param, Params, Program, Tree, TreeNode, TreeNodes, TyTree,
+};
+pub use end::ParseEnd;
+pub use parser::parse;

@@ -1,185 +1,236 @@
-//! Texts and their tokens, as tables.
-
-ghost use Rattle.cqp_parse.specs.Examples.{small_text, small_tokens};
-ghost use Rattle.cqp_parse.specs.Texts.{Lexes};
+//! Texts that are read and printed again, and texts that are refused, as tables.
 
 use super::*;
 use std::alloc::Global;
+use std::process::Abort;
 use std::test::Fail;
 
-/// A token as a table has it.
-#[derive(Clone, Copy)]
-enum Row {
-    Name(&'static [u8], u32),
-    Number(u32, u32),
-    Key(Reserved, u32),
-    Sign(Symbol, u32),
-    Bad(u32),
-    End(u32),
-}
-
-fn is_row(token: &Token, row: Row) -> bool {
-    match (token, row) {
-        (Token::Name { text, at }, Row::Name(name, place)) => {
-            text.as_slice() == name && *at == place
-        }
-        (Token::Number { v, at }, Row::Number(number, place)) => *v == number && *at == place,
-        (Token::Key { key, at }, Row::Key(word, place)) => *key == word && *at == place,
-        (Token::Sign { sign, at }, Row::Sign(symbol, place)) => *sign == symbol && *at == place,
-        (Token::Bad { at }, Row::Bad(place)) => *at == place,
-        (Token::End { at }, Row::End(place)) => *at == place,
-        _ => false,
+/// The answer to a text of fewer than 100,000 bytes: the canonical text, or why there is none.
+fn answer(alloc: Global, text: &[u8]) -> Result<Vec<u8>, NoMemory> {
+    if text.len() >= 100_000 {
+        return Vec::from_slice(alloc, b"long");
+    }
+    match parse(alloc, text) {
+        Ok(program) => Ok(print(alloc, &program)?.into_vec()),
+        Err(ParseEnd::Refused { at }) => told(alloc, b"refused at ", at),
+        Err(ParseEnd::Deep { at }) => told(alloc, b"deep at ", at),
+        Err(ParseEnd::NoMemory) => Vec::from_slice(alloc, b"no memory"),
     }
 }
 
-/// Whether the text is short, and its tokens are these rows.
-fn reads_as(alloc: Global, text: &[u8], rows: &[Row]) -> Result<bool, NoMemory> {
+/// Words and an offset.
+fn told(alloc: Global, words: &[u8], at: u32) -> Result<Vec<u8>, NoMemory> {
+    let mut line = Vec::from_slice(alloc, words)?;
+    let number = format!(in alloc; "{at}")?;
+    line.extend_from_slice(number.as_bytes())?;
+    Ok(line)
+}
+
+/// The canonical text of a short text's program that was printed and read again.
+fn again(alloc: Global, text: &[u8]) -> Result<Option<Vec<u8>>, NoMemory> {
     if text.len() >= 1000 {
-        return Ok(false);
+        return Ok(None);
     }
-    let tokens = tokens(alloc, text)?;
-    if tokens.len() != rows.len() {
-        return Ok(false);
+    let Ok(program) = parse(alloc, text) else {
+        return Ok(None);
+    };
+    let printed = print(alloc, &program)?;
+    if printed.len() >= 1000 {
+        return Ok(None);
     }
-    for (token, row) in tokens.iter().zip(rows) {
-        if !is_row(token, *row) {
-            return Ok(false);
-        }
-    }
-    Ok(true)
+    let Ok(program) = print_and_parse(alloc, &program) else {
+        return Ok(None);
+    };
+    let printed = print(alloc, &program)?;
+    Ok(Some(printed.into_vec()))
 }
 
-/// A fact of the definitions alone.
-fn small_text_has_its_tokens()
-    ensures { Lexes 0 small_text small_tokens }
-{}
+/// Asserts the answers to some texts.
+fn tells(rt: &impl Abort, alloc: Global, cases: &[(&str, &str)]) -> Result<(), Fail> {
+    for (text, wanted) in cases {
+        let given = answer(alloc, text.as_bytes())?;
+        assert_eq!(rt; given.as_slice(), wanted.as_bytes(), "{text}");
+    }
+    Ok(())
+}
+
+/// A text so many times, and another behind it.
+fn repeated(alloc: Global, text: &[u8], count: usize, last: &[u8]) -> Result<Vec<u8>, NoMemory> {
+    let mut bytes = Vec::new(alloc);
+    for _ in 0..count {
+        bytes.extend_from_slice(text)?;
+    }
+    bytes.extend_from_slice(last)?;
+    Ok(bytes)
+}
 
 #[test]
-fn texts_are_read(rt: HostRuntime) -> Result<(), Fail> {
-    small_text_has_its_tokens();
-    let cases: [(&[u8], &[Row]); 20] = [
-        (b"", &[Row::End(0)]),
-        (b" \t\r\n", &[Row::End(4)]),
+fn parentheses_stand_where_they_must(rt: HostRuntime) -> Result<(), Fail> {
+    let cases = [
+        ("( qbit x ) 0 -- end", "(qbit x)0"),
+        // A process beside another, as a body and on the left side.
+        ("(qbit x)(0|0)", "(qbit x)(0|0)"),
+        ("((0))|(0|(0))", "0|0|0"),
+        ("(0|0)|0", "(0|0)|0"),
+        ("if 0=0 then (0|0) else (0)", "if 0=0 then(0|0)else 0"),
+        // An application in braces, in parentheses, in `sig( )` and in a list.
+        ("{(x*=(H))}.0", "{x*=H}.0"),
+        ("{((x,y*=CNot))}.0", "{x,y*=CNot}.0"),
+        ("{sig((x*=(S+T)))}.0", "{sig(x*=S+T)}.0"),
+        ("c![(x*=X)].0", "c![(x*=X)].0"),
+        ("{1+(x*=X)}.0", "{1+(x*=X)}.0"),
+        // A measurement as an operand, as an operator and as an item with another behind it.
+        ("{(measure x)+1}.0", "{(measure x)+1}.0"),
+        ("{y*=(measure x)}.0", "{y*=(measure x)}.0"),
+        ("c![(measure z),x].0", "c![(measure z),x].0"),
+        ("c![measure z,x].0", "c![measure z,x].0"),
+        ("c![measure x,1].0", "c![(measure x),1].0"),
+        ("c![1,(measure x)].0", "c![1,measure x].0"),
         (
-            b"12ab",
-            &[Row::Number(12, 0), Row::Name(b"ab", 2), Row::End(4)],
+            "if (measure x)=measure y then 0 else 0",
+            "if measure x=measure y then 0 else 0",
         ),
-        (
-            b"def_ a_1Z",
-            &[Row::Name(b"def_", 0), Row::Name(b"a_1Z", 5), Row::End(9)],
-        ),
-        (
-            b"Def deft",
-            &[Row::Name(b"Def", 0), Row::Name(b"deft", 4), Row::End(8)],
-        ),
-        (b"0", &[Row::Number(0, 0), Row::End(1)]),
-        (b"007", &[Row::Bad(0)]),
-        (b"00", &[Row::Bad(0)]),
-        (
-            b"4294967295",
-            &[Row::Number(4_294_967_295, 0), Row::End(10)],
-        ),
-        (b"x 4294967296 y", &[Row::Name(b"x", 0), Row::Bad(2)]),
-        (b"99999999999999999999999", &[Row::Bad(0)]),
-        (b"0--x", &[Row::Number(0, 0), Row::End(4)]),
-        (b"-- x\n0", &[Row::Number(0, 5), Row::End(6)]),
-        (b"--\xff--\n--\n", &[Row::End(9)]),
-        (b"*=*", &[Row::Sign(Symbol::Applies, 0), Row::Bad(2)]),
-        (
-            b"= =",
-            &[
-                Row::Sign(Symbol::Equals, 0),
-                Row::Sign(Symbol::Equals, 2),
-                Row::End(3),
-            ],
-        ),
-        (b"x-", &[Row::Name(b"x", 0), Row::Bad(1)]),
-        (b"_a", &[Row::Bad(0)]),
-        (b"(\x80", &[Row::Sign(Symbol::Open, 0), Row::Bad(1)]),
-        (b"\0", &[Row::Bad(0)]),
+        // A sum on the right side.
+        ("{(1+2)+3}.0", "{1+2+3}.0"),
+        ("{1+(2+3)}.0", "{1+(2+3)}.0"),
     ];
-    for (text, rows) in cases {
-        assert!(rt; reads_as(rt.alloc(), text, rows)?, "{text:?}");
+    tells(&rt, rt.alloc(), &cases)
+}
+
+#[test]
+fn each_construct_is_read(rt: HostRuntime) -> Result<(), Fail> {
+    let cases = [
+        ("0", "0"),
+        ("f()", "f()"),
+        ("f(x , y)", "f(x,y)"),
+        ("(new c:^[])c![].0", "(new c:^[])c![].0"),
+        (
+            "( new c : ^ [ Int , Op ( 2 ) , ^ [ Qbit ] ] ) 0",
+            "(new c:^[Int,Op(2),^[Qbit]])0",
+        ),
+        ("c ? [ ] . 0", "c?[].0"),
+        (
+            "c?[x:Int,u:Op(1),d:^[^[Unit],Qbit]].0",
+            "c?[x:Int,u:Op(1),d:^[^[Unit],Qbit]].0",
+        ),
+        (
+            "c![unit,I,X,Y,Z,H,S,T,CNot,4294967295].0",
+            "c![unit,I,X,Y,Z,H,S,T,CNot,4294967295].0",
+        ),
+        (
+            "def f(x:Qbit)=d![x].0;def g()=f(y)|0;g()",
+            "def f(x:Qbit)=d![x].0;def g()=f(y)|0;g()",
+        ),
+        ("def f ( ) = (0|0) ; f ( )", "def f()=0|0;f()"),
+    ];
+    tells(&rt, rt.alloc(), &cases)
+}
+
+#[test]
+fn programs_are_read_again(rt: HostRuntime) -> Result<(), Fail> {
+    let cases: [(&[u8], &[u8]); 3] = [
+        (b"( qbit x ) 0 -- end", b"(qbit x)0"),
+        (b"c![(measure x) , 1] . (0 | 0)", b"c![(measure x),1].(0|0)"),
+        (
+            b"def f(x : Qbit) = d![x] . 0 ; f(y)",
+            b"def f(x:Qbit)=d![x].0;f(y)",
+        ),
+    ];
+    for (text, wanted) in cases {
+        let given = again(rt.alloc(), text)?;
+        assert_eq!(rt; given.as_deref(), Some(wanted));
     }
     Ok(())
 }
 
 #[test]
-fn each_reserved_word_is_read(rt: HostRuntime) -> Result<(), Fail> {
-    let cases: [(&[u8], Reserved, u32); 24] = [
-        (b"def", Reserved::Def, 3),
-        (b"new", Reserved::New, 3),
-        (b"qbit", Reserved::MakeQbit, 4),
-        (b"measure", Reserved::Measure, 7),
-        (b"sig", Reserved::Sig, 3),
-        (b"if", Reserved::If, 2),
-        (b"then", Reserved::Then, 4),
-        (b"else", Reserved::Else, 4),
-        (b"unit", Reserved::UnitValue, 4),
-        (b"Int", Reserved::IntType, 3),
-        (b"Unit", Reserved::UnitType, 4),
-        (b"Qbit", Reserved::QbitType, 4),
-        (b"Op", Reserved::OpType, 2),
-        (b"I", Reserved::I, 1),
-        (b"X", Reserved::X, 1),
-        (b"Y", Reserved::Y, 1),
-        (b"Z", Reserved::Z, 1),
-        (b"H", Reserved::H, 1),
-        (b"S", Reserved::S, 1),
-        (b"T", Reserved::T, 1),
-        (b"CNot", Reserved::CNot, 4),
-        (b"CZ", Reserved::CZ, 2),
-        (b"Swap", Reserved::Swap, 4),
-        (b"Toffoli", Reserved::Toffoli, 7),
+fn refusals_tell_their_token(rt: HostRuntime) -> Result<(), Fail> {
+    let cases = [
+        ("", "refused at 0"),
+        ("{measure x, 1}.0", "refused at 12"),
+        ("c![measure x,y + 1].0", "refused at 15"),
+        ("12ab", "refused at 0"),
+        ("007", "refused at 0"),
+        ("{4294967296}.0", "refused at 1"),
+        ("{x *}.0", "refused at 3"),
+        ("0 0", "refused at 2"),
+        ("0|", "refused at 2"),
+        ("(0", "refused at 2"),
+        ("0)", "refused at 1"),
+        ("def f()=0", "refused at 9"),
+        ("def f()=0;", "refused at 10"),
+        ("(new c:Op(3))0", "refused at 10"),
+        ("{x,y}.0", "refused at 4"),
+        ("{CZ}.0", "refused at 1"),
+        ("{Swap}.0", "refused at 1"),
+        ("{Toffoli}.0", "refused at 1"),
+        ("if 0 then 0 else 0", "refused at 5"),
     ];
-    for (text, key, end) in cases {
-        assert!(rt;
-            reads_as(rt.alloc(), text, &[Row::Key(key, 0), Row::End(end)])?,
-            "{text:?}"
-        );
+    tells(&rt, rt.alloc(), &cases)
+}
+
+#[test]
+fn reserved_words_are_no_names(rt: HostRuntime) -> Result<(), Fail> {
+    let words = [
+        "def", "new", "qbit", "measure", "sig", "if", "then", "else", "unit", "Int", "Unit",
+        "Qbit", "Op", "I", "X", "Y", "Z", "H", "S", "T", "CNot", "CZ", "Swap", "Toffoli",
+    ];
+    let alloc = rt.alloc();
+    for word in words {
+        let text = repeated(alloc, b"(qbit ", 1, word.as_bytes())?;
+        let given = answer(alloc, text.as_slice())?;
+        assert_eq!(rt; given.as_slice(), b"refused at 6".as_slice(), "{word}");
     }
     Ok(())
 }
 
 #[test]
-fn each_symbol_is_read(rt: HostRuntime) -> Result<(), Fail> {
-    let cases: [(&[u8], Symbol, u32); 17] = [
-        (b"(", Symbol::Open, 1),
-        (b")", Symbol::Close, 1),
-        (b"[", Symbol::OpenList, 1),
-        (b"]", Symbol::CloseList, 1),
-        (b"{", Symbol::OpenAct, 1),
-        (b"}", Symbol::CloseAct, 1),
-        (b".", Symbol::Dot, 1),
-        (b",", Symbol::Comma, 1),
-        (b":", Symbol::Colon, 1),
-        (b";", Symbol::Semicolon, 1),
-        (b"=", Symbol::Equals, 1),
-        (b"*=", Symbol::Applies, 2),
-        (b"?", Symbol::Question, 1),
-        (b"!", Symbol::Bang, 1),
-        (b"|", Symbol::Bar, 1),
-        (b"^", Symbol::Caret, 1),
-        (b"+", Symbol::Plus, 1),
+fn depth_counts_open_brackets(rt: HostRuntime) -> Result<(), Fail> {
+    let alloc = rt.alloc();
+    let cases: [(&[u8], usize, &[u8], &[u8]); 5] = [
+        (b"(", 101, b"", b"deep at 100"),
+        (b"(", 100, b"", b"refused at 100"),
+        (b"(", 100, b")", b"refused at 100"),
+        (b"(", 101, b"?", b"deep at 100"),
+        (b"f()|", 200, b"0 0", b"refused at 802"),
     ];
-    for (text, sign, end) in cases {
-        assert!(rt;
-            reads_as(rt.alloc(), text, &[Row::Sign(sign, 0), Row::End(end)])?,
-            "{text:?}"
-        );
+    for (text, count, last, wanted) in cases {
+        let bytes = repeated(alloc, text, count, last)?;
+        let given = answer(alloc, bytes.as_slice())?;
+        assert_eq!(rt; given.as_slice(), wanted);
     }
     Ok(())
 }
 
+/// A text, another so many times, and two behind them.
+fn chain(
+    alloc: Global,
+    first: &[u8],
+    link: &[u8],
+    count: usize,
+    last: &[u8],
+) -> Result<Vec<u8>, NoMemory> {
+    let mut bytes = Vec::from_slice(alloc, first)?;
+    let links = repeated(alloc, link, count, last)?;
+    bytes.extend_from_slice(links.as_slice())?;
+    Ok(bytes)
+}
+
 #[test]
-fn laws_are_called(rt: HostRuntime) -> Result<(), Fail> {
-    one_reading();
-    prefixes_are_decided();
-    canonical_text();
-    outcomes();
-    measured_items();
-    measured_refusals();
-    groups();
-    empty_text();
+fn long_chains_are_read(rt: HostRuntime) -> Result<(), Fail> {
+    let alloc = rt.alloc();
+    let branches = repeated(alloc, b"if 0=0 then ", 5_000, b"0")?;
+    let cases: [(&[u8], &[u8], usize, &[u8]); 5] = [
+        (b"", b"0|", 20_000, b"0"),
+        (b"", b"{1}.", 9_000, b"0"),
+        (b"", b"(qbit x)", 9_000, b"0"),
+        (b"{", b"1+", 9_000, b"1}.0"),
+        (branches.as_slice(), b" else 0", 5_000, b""),
+    ];
+    for (first, link, count, last) in cases {
+        let bytes = chain(alloc, first, link, count, last)?;
+        let given = answer(alloc, bytes.as_slice())?;
+        assert_eq!(rt; given.as_slice(), bytes.as_slice());
+    }
     Ok(())
 }

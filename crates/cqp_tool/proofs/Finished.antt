@@ -1,42 +1,47 @@
--- A sketch that is finished, and pieces that have no line.
-use Rattle.std.proofs.Common.{◌≡◌, ℕ, zero, suc, ◌+◌, ◌*◌, ◌^◌, ◌<◌, ◌≤◌, List, [], ◌∷◌, ◌++◌, map, length, Bool, true, false, refl, sym, ap, ◌∙◌, arith, subst, take, drop, get_or, inl, inr, append-nil, length-append}
-use Rattle.std.specs.Prelude.{Some, None, Option, MatchBool, replicate, reverse, sum_by, ◌&&◌, nat_lt, ◌⊎◌}
+-- A sketch that is finished, and trees that have no line.
+use Rattle.std.proofs.Common.{◌≡◌, ℕ, zero, suc, ◌+◌, ◌<◌, ◌≤◌, List, [], ◌∷◌, ◌++◌, map, length, Bool, true, false, refl, sym, ap, ◌∙◌, arith, subst, inl, inr, Bor, append-nil, length-append}
+use Rattle.std.specs.Prelude.{Some, None, Option, MatchBool, replicate, reverse, nat_lt, ◌⊎◌}
 use Rattle.std.specs.Option.{option_map}
 use Rattle.std.specs.List.{list_all, range_with_len}
 use Rattle.std.proofs.lemmas.List.{length-replicate, length-reverse}
 use Rattle.std.proofs.lemmas.List.Sums.{sum_by-append}
 use Rattle.cqp_syntax.specs.declared.op.Op.{Op}
+use Rattle.cqp_syntax.specs.declared.op.Op.TheVariants as op
 use Rattle.cqp_syntax.specs.declared.ty.Ty.{Ty}
 use Rattle.cqp_syntax.specs.declared.ty.Ty.TheVariants as ty
 use Rattle.cqp_syntax.specs.declared.node.Node.{Node}
 use Rattle.cqp_syntax.specs.declared.node.Node.TheVariants as node
 use Rattle.cqp_syntax.specs.TypeTrees.{qbit_type, type_at}
 use Rattle.cqp_syntax.specs.Trees.{Process, nil, qbit, act}
-use Rattle.cqp_syntax.specs.Binders.{binders_of}
 use Rattle.cqp_syntax.specs.Listing.{Listing, IsListing, IsSound, breadth_of, has_operands}
-use Rattle.cqp_cells.specs.Line.{IsLineGate, gate_on_name, ends, IsLine, qubits_made, h_in, h_applied}
-use Rattle.cqp_tool.specs.declared.piece.Piece.{Piece}
-use Rattle.cqp_tool.specs.declared.piece.Piece.TheVariants.{Qbit}
-use Rattle.cqp_tool.specs.Line.{binder_of, gate_before, process_behind, HasNoLine, IsItsLine}
-use Rattle.cqp_tool.specs.Draft.{Sketch, h_of, AddsBinder, AddsGate, AddsPiece, RefusesPiece, LacksGate, HasRoom, IsSketch}
-use Rattle.cqp_tool.proofs.Sketches.{list_all-append, piece_of, gate_piece, h_counted, binds_sketch, applies_sketch}
+use Rattle.cqp_cells.specs.Line.{IsLineGate, is_h, is_x, gate_on_name, ends, qubits_made, h_in, h_applied}
+use Rattle.cqp_grammar.specs.Trees as tree
+use Rattle.cqp_grammar.specs.Trees.{Occurrence, ProcessTree}
+use Rattle.cqp_tool.specs.declared.piece.Piece.TheVariants.{Qbit, H, X}
+use Rattle.cqp_tool.specs.Pieces.{HasPiece, binds, applies_h, applies_x}
+use Rattle.cqp_tool.specs.Line.{binder_of, gate_before, line_of, IsLineTree}
+use Rattle.cqp_tool.specs.Draft.{Sketch, h_of, with_binder, AddsBinder, AddsGate, AddsPiece, RefusesPiece, LacksGate, MakesNoLine, IsSketch, IsWhole}
+use Rattle.cqp_tool.proofs.Sketches.{list_all-append, gate_tree, gate_line, h_counted, binds_sketch, applies_sketch}
+use Rattle.cqp_tool.proofs.Offsets.{length-process_offsets}
 
--- the lists of a sketch with `0` behind it
-abbrev pub finished : Sketch → Listing
-finished s = record { nodes = s.nodes ++ node.Nil ∷ []; types = ty.Qbit ∷ []; ty_of = replicate (length s.bound) 0; at = s.at ++ s.reached ∷ [] }
+-- the lists of a sketch with `0` behind it, and offsets
+abbrev pub finished : Sketch → List ℕ → Listing
+finished s at = record { nodes = s.nodes ++ node.Nil ∷ []; types = ty.Qbit ∷ []; ty_of = replicate (length s.bound) 0; at = at }
 
 -- lists that are those of a sketch with `0` behind it
-pub are_finished : (s v : Sketch) (nodes : List Node) (at : List ℕ) (types : List Ty) (letters ty_of : List ℕ) (k : ℕ) → v ≡ s → v.bound ≡ reverse letters
-    → nodes ≡ v.nodes ++ node.Nil ∷ [] → at ≡ v.at ++ v.reached ∷ [] → types ≡ ty.Qbit ∷ [] → ty_of ≡ replicate k 0 → k ≡ length letters
-    → let l : Listing = record { nodes = nodes; types = types; ty_of = ty_of; at = at } in l ≡ finished s
-are_finished s v nodes at types letters ty_of k same bound e f g h counted =
-    same_listing (e ∙ ap (λ t. t.nodes ++ node.Nil ∷ []) same) g (h ∙ ap (λ n. replicate n 0) size) (f ∙ ap (λ t. t.at ++ t.reached ∷ []) same)
+pub are_finished : (s v : Sketch) (nodes : List Node) (at old : List ℕ) (types : List Ty) (names : List (List ℕ)) (ty_of : List ℕ) (k : ℕ) → v ≡ s
+    → v.bound ≡ reverse names
+    → nodes ≡ v.nodes ++ node.Nil ∷ [] → at ≡ old → types ≡ ty.Qbit ∷ [] → ty_of ≡ replicate k 0 → k ≡ length names
+    → let l : Listing = record { nodes = nodes; types = types; ty_of = ty_of; at = at } in l ≡ finished s old
+are_finished s v nodes at old types names ty_of k same bound e f g h counted =
+    same_listing (e ∙ ap (λ t. t.nodes ++ node.Nil ∷ []) same) g (h ∙ ap (λ n. replicate n 0) size) f
   where
     size : k ≡ length s.bound
-    size = counted ∙ sym (length-reverse letters) ∙ sym (ap length bound) ∙ ap (λ t. length t.bound) same
+    size = counted ∙ sym (length-reverse names) ∙ sym (ap length bound) ∙ ap (λ t. length t.bound) same
 
     same_listing : {ns ms : List Node} {ts us : List Ty} {ys zs xs ws : List ℕ} → ns ≡ ms → ts ≡ us → ys ≡ zs → xs ≡ ws
-        → let l : Listing = record { nodes = ns; types = ts; ty_of = ys; at = xs } in let m : Listing = record { nodes = ms; types = us; ty_of = zs; at = ws } in l ≡ m
+        → let l : Listing = record { nodes = ns; types = ts; ty_of = ys; at = xs } in let m : Listing = record
+        { nodes = ms; types = us; ty_of = zs; at = ws } in l ≡ m
     same_listing a b c d = cc
 
 zero_types : (k : ℕ) → replicate k qbit_type ++ [] ≡ map (type_at (ty.Qbit ∷ [])) (replicate k 0)
@@ -48,43 +53,34 @@ zeros_typed zero = refl
 zeros_typed (suc k) = zeros_typed k
 
 -- they are the lists of a process
-pub finished_listing : (ds : List Piece) (s : Sketch) (it : IsSketch ds s) → IsListing (finished s) (it.around nil)
-finished_listing ds s it = record {
+pub finished_listing : (t : ProcessTree) (at : List ℕ) (s : Sketch) (w : IsWhole t at s) → IsListing (finished s at) (w.sketch.around nil)
+finished_listing t at s w = let it = w.sketch in record {
   nodes = it.listed nil;
   names = it.names nil ∙ append-nil _ ∙ ap (range_with_len 0) (sym (length-replicate (length s.bound) 0));
   types = it.types nil ∙ zero_types (length s.bound);
   scoped = it.scoped nil refl;
-  placed = omega (arith, length-append s.at (s.reached ∷ []), length-append s.nodes (node.Nil ∷ []), it.placed);
+  placed = omega (arith, length-append s.nodes (node.Nil ∷ []), it.size, ap length w.offsets, length-process_offsets t);
 }
 
-pub finished_sound : (ds : List Piece) (s : Sketch) → IsSketch ds s → length ds ≤ 8192 → IsSound (finished s)
-finished_sound ds s it few = record {
-  operands = list_all-append has_operands s.nodes (node.Nil ∷ []) it.operands refl;
+pub finished_sound : (t : ProcessTree) (at : List ℕ) (s : Sketch) → IsWhole t at s → IsSound (finished s at)
+finished_sound t at s w = record {
+  operands = list_all-append has_operands s.nodes (node.Nil ∷ []) w.sketch.operands refl;
   parts_first = refl;
   typed = zeros_typed (length s.bound);
   one_number = λ m n h g e. omega arith;
   few_types = omega arith;
-  few_nodes = omega (arith, sum_by-append breadth_of s.nodes (node.Nil ∷ []), it.light);
+  few_nodes = omega (arith, sum_by-append breadth_of s.nodes (node.Nil ∷ []), w.sketch.light, w.few);
 }
 
--- and the pieces' line
-pub finished_line : (ds : List Piece) (s : Sketch) (it : IsSketch ds s) → IsItsLine ds (it.around nil)
-finished_line ds s it = record {
-  process = ap (process_behind []) (sym (append-nil ds)) ∙ it.behind [];
+-- and the tree's line
+pub finished_line : (t : ProcessTree) (end : ℕ) (s : Sketch) (it : IsSketch t (tree.nil end) s) → IsLineTree t (it.around nil)
+finished_line t end s it = record {
+  process = it.behind;
   line = record {
     straight = it.straight nil ends;
     few_qubits = omega (arith, it.qubits nil, it.few_qubits);
     few_h = omega (arith, it.hs nil, it.few_h);
   };
-}
-
--- where one piece more may come, its numbers fit
-pub has_room : (ds : List Piece) (s : Sketch) → IsSketch ds s → length ds ≤ 8192 → HasRoom s
-has_room ds s it few = record {
-  nodes = omega (arith, it.few);
-  near = omega (arith, it.near);
-  few_qubits = it.few_qubits;
-  few_h = it.few_h;
 }
 
 differ : {A : Type 0} (x : A) → None ≡ Some x → ⊥
@@ -93,52 +89,83 @@ differ x e = cc
 same_some : {A : Type 0} (x y : A) → Some x ≡ Some y → x ≡ y
 same_some x y e = cc
 
+-- a tree that doesn't go on
+pub no_way_on : (t r : ProcessTree) (s : Sketch) → IsSketch t r s → line_of s.bound r ≡ None → MakesNoLine t
+no_way_on t r s it none p is = differ p (sym (it.behind ∙ ap (option_map it.around) none) ∙ is.process)
+
 -- a thirteenth binder
-pub too_many_qubits : (ds rest : List Piece) (s : Sketch) (a : ℕ) → IsSketch ds s → 12 ≤ length s.bound → HasNoLine (ds ++ Qbit a ∷ rest)
-too_many_qubits ds rest s a it full p is line = by_rest (process_behind (a ∷ s.bound) rest) (sym (it.behind (Qbit a ∷ rest)) ∙ is)
+too_many_qubits : (t rest : ProcessTree) (at : ℕ) (x : Occurrence) (s : Sketch) → IsSketch t (tree.qbit at x rest) s → 12 ≤ length s.bound → MakesNoLine t
+too_many_qubits t rest at x s it full p is = by_rest (line_of (x.name ∷ s.bound) rest) (sym it.behind ∙ is.process)
   where
     by_rest : (o : Option Process) → option_map it.around (option_map (λ q. qbit (length s.bound) q) o) ≡ Some p → ⊥
     by_rest None e = differ p e
     by_rest (Some q) e =
         let made : qubits_made p ≡ length s.bound + (1 + qubits_made q) = sym (ap qubits_made (same_some _ _ e)) ∙ it.qubits (qbit (length s.bound) q) in
-        omega (arith, line.few_qubits)
+        omega (arith, is.line.few_qubits)
 
--- a gate on a letter that isn't bound, or an H too many
-pub lacks_gate : (ds rest : List Piece) (s : Sketch) (o : Op) (a : ℕ) → IsLineGate o → IsSketch ds s → LacksGate o a s → HasNoLine (ds ++ piece_of o a ∷ rest)
-lacks_gate ds rest s o a served it lacks p is line =
-    by_rest (binder_of a s.bound) (process_behind s.bound rest) lacks (ap (option_map it.around) (sym (gate_piece o a s.bound rest served)) ∙ sym (it.behind (piece_of o a ∷ rest)) ∙ is)
+-- a gate on a name that isn't bound, or an H too many
+lacks_gate : (t rest : ProcessTree) (at a g : ℕ) (o : Op) (x : Occurrence) (s : Sketch) → IsLineGate o → IsSketch t (gate_tree at a g o x rest) s
+    → LacksGate o x.name s
+    → MakesNoLine t
+lacks_gate t rest at a g o x s served it lacks p is =
+    by_rest (binder_of x.name s.bound) (line_of s.bound rest) lacks
+    (ap (option_map it.around) (sym (gate_line at a g o x rest s.bound served)) ∙ sym it.behind ∙ is.process)
   where
-    by_rest : (x : Option ℕ) (r : Option Process) → (x ≡ None) ⊎ (90 < s.h + h_of o) → option_map it.around (gate_before o x r) ≡ Some p → ⊥
+    by_rest : (k : Option ℕ) (r : Option Process) → (k ≡ None) ⊎ (90 < s.h + h_of o) → option_map it.around (gate_before o k r) ≡ Some p → ⊥
     by_rest None r reason e = differ p e
-    by_rest (Some x) None reason e = differ p e
-    by_rest (Some x) (Some q) (inl none) e = differ x (sym none)
-    by_rest (Some x) (Some q) (inr many) e =
-        let counted : h_applied p ≡ s.h + (h_in (gate_on_name o x) + h_applied q) = sym (ap h_applied (same_some _ _ e)) ∙ it.hs (act (gate_on_name o x) q) in
-        omega (arith, line.few_h, h_counted o x served)
+    by_rest (Some k) None reason e = differ p e
+    by_rest (Some k) (Some q) (inl none) e = differ k (sym none)
+    by_rest (Some k) (Some q) (inr many) e =
+        let counted : h_applied p ≡ s.h + (h_in (gate_on_name o k) + h_applied q) = sym (ap h_applied (same_some _ _ e)) ∙ it.hs (act (gate_on_name o k) q) in
+        omega (arith, is.line.few_h, h_counted o k served)
+
+-- a binder and a gate that were added
+gate_fits : (t rest : ProcessTree) (at a g : ℕ) (o : Op) (x : Occurrence) (old new : Sketch) → IsLineGate o → AddsGate o x.name old new
+    → IsSketch t (gate_tree at a g o x rest) old → IsSketch t rest new
+gate_fits t rest at a g o x old new served h it =
+    subst (IsSketch t rest) (sym h.is) (applies_sketch t rest at a g o x old h.name served it h.bound h.few_h)
+
+binder_fits : (name : Bor (List ℕ)) (old new : Sketch) → AddsBinder name.now old new → (t r rest : ProcessTree) → HasPiece r (Qbit name) rest
+    → IsSketch t r old → IsSketch t rest new
+binder_fits name old new h t r rest (binds {at = at} {x = x} e) it =
+    subst (IsSketch t rest) (sym (h.is ∙ ap (λ a. with_binder a old) e)) (binds_sketch t rest at x old it h.few_qubits)
+
+binder_refused : (name : Bor (List ℕ)) (old : Sketch) → 12 ≤ length old.bound → (t r rest : ProcessTree) → HasPiece r (Qbit name) rest
+    → IsSketch t r old → MakesNoLine t
+binder_refused name old h t r rest (binds {at = at} {x = x} e) it = too_many_qubits t rest at x old it h
+
+h_fits : (name : Bor (List ℕ)) (old new : Sketch) → AddsGate op.H name.now old new → (t r rest : ProcessTree) → HasPiece r (H name) rest
+    → IsSketch t r old → IsSketch t rest new
+h_fits name old new h t r rest (applies_h {at = at} {a = a} {g = g} {x = x} e) it =
+    gate_fits t rest at a g op.H x old new is_h (subst (λ b. AddsGate op.H b old new) e h) it
+
+h_refused : (name : Bor (List ℕ)) (old : Sketch) → LacksGate op.H name.now old → (t r rest : ProcessTree) → HasPiece r (H name) rest
+    → IsSketch t r old → MakesNoLine t
+h_refused name old h t r rest (applies_h {at = at} {a = a} {g = g} {x = x} e) it =
+    lacks_gate t rest at a g op.H x old is_h it (subst (λ b. LacksGate op.H b old) e h)
+
+x_fits : (name : Bor (List ℕ)) (old new : Sketch) → AddsGate op.X name.now old new → (t r rest : ProcessTree) → HasPiece r (X name) rest
+    → IsSketch t r old → IsSketch t rest new
+x_fits name old new h t r rest (applies_x {at = at} {a = a} {g = g} {x = x} e) it =
+    gate_fits t rest at a g op.X x old new is_x (subst (λ b. AddsGate op.X b old new) e h) it
+
+x_refused : (name : Bor (List ℕ)) (old : Sketch) → LacksGate op.X name.now old → (t r rest : ProcessTree) → HasPiece r (X name) rest
+    → IsSketch t r old → MakesNoLine t
+x_refused name old h t r rest (applies_x {at = at} {a = a} {g = g} {x = x} e) it =
+    lacks_gate t rest at a g op.X x old is_x it (subst (λ b. LacksGate op.X b old) e h)
 
 -- what adding a piece tells
-pub binder_added : (fits : Bool) (a : ℕ) (old new : Sketch) → MatchBool fits (AddsBinder a old new) (12 ≤ length old.bound)
-    → MatchBool fits (AddsPiece (Qbit a) old new) (RefusesPiece (Qbit a) old)
-binder_added true a old new h = λ ds it. subst (IsSketch (ds ++ Qbit a ∷ [])) (sym h.is) (binds_sketch ds old a it h.few_qubits)
-binder_added false a old new h = λ ds rest it. too_many_qubits ds rest old a it h
+pub binder_added : (fits : Bool) (name : Bor (List ℕ)) (old new : Sketch) → MatchBool fits (AddsBinder name.now old new) (12 ≤ length old.bound)
+    → MatchBool fits (AddsPiece (Qbit name) old new) (RefusesPiece (Qbit name) old)
+binder_added true name old new h = binder_fits name old new h
+binder_added false name old new h = binder_refused name old h
 
-pub gate_added : (fits : Bool) (o : Op) (a : ℕ) (old new : Sketch) → IsLineGate o → MatchBool fits (AddsGate o a old new) (LacksGate o a old)
-    → MatchBool fits (AddsPiece (piece_of o a) old new) (RefusesPiece (piece_of o a) old)
-gate_added true o a old new served h = λ ds it. subst (IsSketch (ds ++ piece_of o a ∷ [])) (sym h.is) (applies_sketch ds old o a h.name served it h.bound h.few_h)
-gate_added false o a old new served h = λ ds rest it. lacks_gate ds rest old o a served it h
+pub h_added : (fits : Bool) (name : Bor (List ℕ)) (old new : Sketch) → MatchBool fits (AddsGate op.H name.now old new) (LacksGate op.H name.now old)
+    → MatchBool fits (AddsPiece (H name) old new) (RefusesPiece (H name) old)
+h_added true name old new h = h_fits name old new h
+h_added false name old new h = h_refused name old h
 
--- the pieces so far, the next one and the others
-pub pieces_split : (ps : List Piece) (i : ℕ) (d : Piece) → i < length ps → take i ps ++ get_or ps i d ∷ drop (i + 1) ps ≡ ps
-pieces_split [] i d h = absurd (omega arith)
-pieces_split (p ∷ ps) zero d h = refl
-pieces_split (p ∷ ps) (suc i) d h = let e : suc i + 1 ≡ suc (i + 1) = omega arith in rw e (ap (λ qs. p ∷ qs) (pieces_split ps i d (omega arith)))
-
-take_nil : (n : ℕ) → let none : List Piece = [] in take n none ≡ none
-take_nil zero = refl
-take_nil (suc n) = refl
-
--- no piece more
-pub pieces_whole : (ps : List Piece) (i : ℕ) → length ps ≤ i → take i ps ≡ ps
-pieces_whole [] i h = take_nil i
-pieces_whole (p ∷ ps) zero h = absurd (omega arith)
-pieces_whole (p ∷ ps) (suc i) h = ap (λ qs. p ∷ qs) (pieces_whole ps i (omega arith))
+pub x_added : (fits : Bool) (name : Bor (List ℕ)) (old new : Sketch) → MatchBool fits (AddsGate op.X name.now old new) (LacksGate op.X name.now old)
+    → MatchBool fits (AddsPiece (X name) old new) (RefusesPiece (X name) old)
+x_added true name old new h = x_fits name old new h
+x_added false name old new h = x_refused name old h

@@ -1,37 +1,35 @@
 -- How a sketch grows, and what it is at its end.
-use Rattle.std.proofs.Common.{◌≡◌, ℕ, zero, suc, ◌+◌, ◌*◌, ◌<◌, ◌≤◌, List, [], ◌∷◌, ◌++◌, map, length, Bool, true, false, refl, sym, ap, ◌∙◌, arith, subst, append_assoc, append-nil, length-append}
-use Rattle.std.specs.Prelude.{Some, None, Option, replicate, sum_by, ◌==◌, ◌&&◌, ◌||◌, nat_lt, if◌then◌else◌}
+use Rattle.std.proofs.Common.{◌≡◌, ℕ, zero, suc, ◌+◌, ◌<◌, ◌≤◌, List, [], ◌∷◌, ◌++◌, length, Bool, true, false, refl, sym, ap, ◌∙◌, arith, append_assoc, length-append}
+use Rattle.std.specs.Prelude.{Some, None, Option, replicate, sum_by, bytes_eq, ◌==◌, ◌&&◌, ◌||◌, if◌then◌else◌}
 use Rattle.std.specs.Option.{option_map}
 use Rattle.std.specs.List.{list_all, range_with_len}
 use Rattle.std.proofs.lemmas.List.Sums.{sum_by-append}
 use Rattle.std.proofs.lemmas.Bool.Decides.{nat_tests}
 use Rattle.cqp_syntax.specs.declared.op.Op.{Op}
-use Rattle.cqp_syntax.specs.declared.op.Op.TheVariants as op
-use Rattle.cqp_syntax.specs.declared.ty.Ty.TheVariants as ty
 use Rattle.cqp_syntax.specs.declared.node.Node.{Node}
 use Rattle.cqp_syntax.specs.declared.node.Node.TheVariants as node
-use Rattle.cqp_syntax.specs.TypeTrees.{TypeTree, qbit_type, type_at}
-use Rattle.cqp_syntax.specs.Trees.{named, Process, nil, qbit, act}
+use Rattle.cqp_syntax.specs.TypeTrees.{TypeTree, qbit_type}
+use Rattle.cqp_syntax.specs.Trees.{named, Process, qbit, act}
 use Rattle.cqp_syntax.specs.Preorder.{process_nodes}
-use Rattle.cqp_syntax.specs.Binders.{binders_of}
 use Rattle.cqp_syntax.specs.Scope.{is_bound, is_scoped}
-use Rattle.cqp_syntax.specs.Listing.{Listing, IsListing, IsSound, breadth_of, has_operands}
-use Rattle.cqp_cells.specs.Line.{IsLineGate, is_h, is_x, gate_on_name, IsStraight, ends, binds, applies, IsLine, qubits_made, h_in, h_applied}
+use Rattle.cqp_syntax.specs.Listing.{breadth_of, has_operands}
+use Rattle.cqp_cells.specs.Line.{IsLineGate, is_h, is_x, gate_on_name, binds, applies, h_in, h_applied}
 use Rattle.cqp_cells.specs.Progress.{names_below}
-use Rattle.cqp_tool.specs.declared.piece.Piece.{Piece}
-use Rattle.cqp_tool.specs.declared.piece.Piece.TheVariants.{Qbit, H, X}
-use Rattle.cqp_tool.specs.Line.{binder_of, gate_before, process_behind, HasNoLine, IsItsLine}
-use Rattle.cqp_tool.specs.Draft.{Sketch, blank, with_binder, gate_nodes, h_of, with_gate, IsSketch}
+use Rattle.cqp_grammar.specs.Trees as tree
+use Rattle.cqp_grammar.specs.Trees.{Occurrence, ProcessTree}
+use Rattle.cqp_program.specs.Listing.{process_size}
+use Rattle.cqp_tool.specs.Line.{binder_of, gate_before, line_of}
+use Rattle.cqp_tool.specs.Draft.{Sketch, blank, with_binder, gate_nodes, h_of, with_gate, breadth, IsSketch}
 
 option_map-map : {A B C : Type 0} (f : B → C) (g : A → B) (o : Option A) → option_map f (option_map g o) ≡ option_map (λ x. f (g x)) o
 option_map-map f g None = refl
 option_map-map f g (Some x) = refl
 
 -- no piece yet
-pub blank_sketch : IsSketch [] blank
-blank_sketch = record {
+pub blank_sketch : (t : ProcessTree) → IsSketch t t blank
+blank_sketch t = record {
   around = λ p. p;
-  behind = λ rest. same (process_behind [] rest);
+  behind = same (line_of [] t);
   listed = λ p. refl;
   names = λ p. refl;
   types = λ p. refl;
@@ -40,10 +38,9 @@ blank_sketch = record {
   hs = λ p. omega arith;
   scoped = λ p s. s;
   operands = refl;
-  placed = refl;
+  size = omega arith;
   few = omega arith;
   light = omega arith;
-  near = omega arith;
   few_qubits = omega arith;
   few_h = omega arith;
 }
@@ -69,7 +66,8 @@ list_all-append test (x ∷ xs) ys p q = joined (test x) (list_all test xs) (lis
 
 counts_up_from : (a n : ℕ) (xs : List ℕ) → range_with_len a n ++ (a + n) ∷ xs ≡ range_with_len a (suc n) ++ xs
 counts_up_from a zero xs = let z : a + 0 ≡ a = omega arith in ap (λ m. m ∷ xs) z
-counts_up_from a (suc n) xs = let e : a + suc n ≡ a + 1 + n = omega arith in ap (λ m. a ∷ range_with_len (a + 1) n ++ m ∷ xs) e ∙ ap (λ t. a ∷ t) (counts_up_from (a + 1) n xs)
+counts_up_from a (suc n) xs =
+    let e : a + suc n ≡ a + 1 + n = omega arith in ap (λ m. a ∷ range_with_len (a + 1) n ++ m ∷ xs) e ∙ ap (λ t. a ∷ t) (counts_up_from (a + 1) n xs)
 
 -- one name more at the end of those that count up
 counts_up : (k : ℕ) (xs : List ℕ) → range_with_len 0 k ++ k ∷ xs ≡ range_with_len 0 (suc k) ++ xs
@@ -80,28 +78,28 @@ one_more_type zero t ts = refl
 one_more_type (suc k) t ts = ap (λ xs. t ∷ xs) (one_more_type k t ts)
 
 -- what a piece adds to the counts
-record AddsPiece (ds : List Piece) (s : Sketch) (p : Piece) (nodes : List Node) (at : List ℕ) (reached : ℕ) : Type 0 where
+record AddsCounts (t rest : ProcessTree) (s : Sketch) (nodes : List Node) : Type 0 where
   operands : list_all has_operands (s.nodes ++ nodes) ≡ true
-  placed : length (s.at ++ at) ≡ length (s.nodes ++ nodes)
-  few : length (s.nodes ++ nodes) ≤ 3 * length (ds ++ p ∷ [])
-  light : sum_by breadth_of (s.nodes ++ nodes) ≤ 4 * length (ds ++ p ∷ [])
-  near : reached ≤ 9 * length (ds ++ p ∷ [])
+  size : length (s.nodes ++ nodes) + process_size rest ≡ process_size t
+  few : length (s.nodes ++ nodes) ≤ sum_by breadth_of (s.nodes ++ nodes)
+  light : sum_by breadth_of (s.nodes ++ nodes) + breadth rest ≤ breadth t
 
-adds_piece : (ds : List Piece) (s : Sketch) (p : Piece) (nodes : List Node) (at : List ℕ) (reached : ℕ) → IsSketch ds s → list_all has_operands nodes ≡ true
-    → length at ≡ length nodes → length nodes ≤ 3 → sum_by breadth_of nodes ≤ 4 → reached ≤ s.reached + 9 → AddsPiece ds s p nodes at reached
-adds_piece ds s p nodes at reached it operands placed few light near = record {
+adds_counts : (t r rest : ProcessTree) (s : Sketch) (nodes : List Node) → IsSketch t r s → list_all has_operands nodes ≡ true
+    → length nodes + process_size rest ≡ process_size r → length nodes ≤ sum_by breadth_of nodes → sum_by breadth_of nodes + breadth rest ≤ breadth r
+    → AddsCounts t rest s nodes
+adds_counts t r rest s nodes it operands size few light = record {
   operands = list_all-append has_operands s.nodes nodes it.operands operands;
-  placed = omega (arith, length-append s.at at, length-append s.nodes nodes, it.placed);
-  few = omega (arith, length-append s.nodes nodes, length-append ds (p ∷ []), it.few);
-  light = omega (arith, sum_by-append breadth_of s.nodes nodes, length-append ds (p ∷ []), it.light);
-  near = omega (arith, length-append ds (p ∷ []), it.near);
+  size = omega (arith, length-append s.nodes nodes, it.size);
+  few = omega (arith, length-append s.nodes nodes, sum_by-append breadth_of s.nodes nodes, it.few);
+  light = omega (arith, sum_by-append breadth_of s.nodes nodes, it.light);
 }
 
 -- a binder more
-pub binds_sketch : (ds : List Piece) (s : Sketch) (a : ℕ) → IsSketch ds s → length s.bound < 12 → IsSketch (ds ++ Qbit a ∷ []) (with_binder a s)
-binds_sketch ds s a it room = record {
+pub binds_sketch : (t rest : ProcessTree) (at : ℕ) (x : Occurrence) (s : Sketch) → IsSketch t (tree.qbit at x rest) s → length s.bound < 12
+    → IsSketch t rest (with_binder x.name s)
+binds_sketch t rest at x s it room = record {
   around = λ p. it.around (qbit k p);
-  behind = λ rest. ap (process_behind []) (append_assoc ds (Qbit a ∷ []) rest) ∙ it.behind (Qbit a ∷ rest) ∙ option_map-map it.around (qbit k) (process_behind (a ∷ s.bound) rest);
+  behind = it.behind ∙ option_map-map it.around (qbit k) (line_of (x.name ∷ s.bound) rest);
   listed = λ p. listed p;
   names = λ p. it.names (qbit k p) ∙ counts_up k _;
   types = λ p. it.types (qbit k p) ∙ one_more_type k qbit_type _;
@@ -110,10 +108,9 @@ binds_sketch ds s a it room = record {
   hs = λ p. it.hs (qbit k p);
   scoped = λ p scoped. it.scoped (qbit k p) scoped;
   operands = adds.operands;
-  placed = adds.placed;
+  size = adds.size;
   few = adds.few;
   light = adds.light;
-  near = adds.near;
   few_qubits = room;
   few_h = it.few_h;
 }
@@ -124,34 +121,35 @@ binds_sketch ds s a it room = record {
     n : ℕ
     n = length s.nodes
 
-    adds : AddsPiece ds s (Qbit a) (node.Qbit k (n + 1) ∷ []) (s.reached ∷ []) (s.reached + 8)
-    adds = adds_piece ds s (Qbit a) (node.Qbit k (n + 1) ∷ []) (s.reached ∷ []) (s.reached + 8) it refl refl (omega arith) (omega arith) (omega arith)
+    adds : AddsCounts t rest s (node.Qbit k (n + 1) ∷ [])
+    adds = adds_counts t (tree.qbit at x rest) rest s (node.Qbit k (n + 1) ∷ []) it refl (omega arith) (omega arith) (omega arith)
 
-    listed : (p : Process) → (s.nodes ++ node.Qbit k (n + 1) ∷ []) ++ process_nodes (length (s.nodes ++ node.Qbit k (n + 1) ∷ [])) p ≡ process_nodes 0 (it.around (qbit k p))
+    listed : (p : Process)
+        → (s.nodes ++ node.Qbit k (n + 1) ∷ []) ++ process_nodes (length (s.nodes ++ node.Qbit k (n + 1) ∷ [])) p ≡ process_nodes 0 (it.around (qbit k p))
     listed p =
         let size : length (s.nodes ++ node.Qbit k (n + 1) ∷ []) ≡ n + 1 = length-append s.nodes (node.Qbit k (n + 1) ∷ []) in
         append_assoc s.nodes (node.Qbit k (n + 1) ∷ []) _ ∙ ap (λ m. s.nodes ++ node.Qbit k (n + 1) ∷ process_nodes m p) size ∙ it.listed (qbit k p)
 
--- the piece of a gate
-abbrev pub piece_of : Op → ℕ → Piece
-piece_of op.H a = H a
-piece_of o a = X a
+-- the tree of a gate before the rest
+abbrev pub gate_tree : (at a g : ℕ) → Op → Occurrence → ProcessTree → ProcessTree
+gate_tree at a g o x rest = tree.act at (tree.apply a (x ∷ []) (tree.gate g o)) rest
 
-pub gate_piece : (o : Op) (a : ℕ) (bound : List ℕ) (rest : List Piece) → IsLineGate o → process_behind bound (piece_of o a ∷ rest) ≡ gate_before o (binder_of a bound) (process_behind bound rest)
-gate_piece o a bound rest is_h = refl
-gate_piece o a bound rest is_x = refl
+pub gate_line : (at a g : ℕ) (o : Op) (x : Occurrence) (rest : ProcessTree) (bound : List (List ℕ)) → IsLineGate o
+    → line_of bound (gate_tree at a g o x rest) ≡ gate_before o (binder_of x.name bound) (line_of bound rest)
+gate_line at a g o x rest bound is_h = refl
+gate_line at a g o x rest bound is_x = refl
 
 pub h_counted : (o : Op) (x : ℕ) → IsLineGate o → h_in (gate_on_name o x) ≡ h_of o
 h_counted o x is_h = refl
 h_counted o x is_x = refl
 
--- a binder of a letter is one of those bound
-binder_within : (a : ℕ) (bound : List ℕ) (x : ℕ) → binder_of a bound ≡ Some x → x < length bound
+-- a binder of a name is one of those bound
+binder_within : (a : List ℕ) (bound : List (List ℕ)) (x : ℕ) → binder_of a bound ≡ Some x → x < length bound
 binder_within a [] x e = absurd (none e)
   where
     none : None ≡ Some x → ⊥
     none f = cc
-binder_within a (b ∷ bs) x e = by_test (a == b) e (binder_within a bs x)
+binder_within a (b ∷ bs) x e = by_test (bytes_eq a b) e (binder_within a bs x)
   where
     by_test : (t : Bool) → (if t then Some (length bs) else binder_of a bs) ≡ Some x → (binder_of a bs ≡ Some x → x < length bs) → x < suc (length bs)
     by_test true f more = let same : length bs ≡ x = cc in omega arith
@@ -167,23 +165,22 @@ bound_name (suc k) x h = by_test (x == k) refl (bound_name k x)
     by_test false e more = let less : x < k = grind (arith, nat_tests) in more less
 
 -- a gate on a bound name more
-pub applies_sketch : (ds : List Piece) (s : Sketch) (o : Op) (a x : ℕ) → IsLineGate o → IsSketch ds s → binder_of a s.bound ≡ Some x → s.h + h_of o ≤ 90
-    → IsSketch (ds ++ piece_of o a ∷ []) (with_gate o x s)
-applies_sketch ds s o a x served it bound room = record {
-  around = λ p. it.around (act (gate_on_name o x) p);
-  behind = λ rest. behind rest;
+pub applies_sketch : (t rest : ProcessTree) (at a g : ℕ) (o : Op) (x : Occurrence) (s : Sketch) (k : ℕ) → IsLineGate o
+    → IsSketch t (gate_tree at a g o x rest) s → binder_of x.name s.bound ≡ Some k → s.h + h_of o ≤ 90 → IsSketch t rest (with_gate o k s)
+applies_sketch t rest at a g o x s k served it bound room = record {
+  around = λ p. it.around (act (gate_on_name o k) p);
+  behind = behind;
   listed = λ p. listed p;
-  names = λ p. it.names (act (gate_on_name o x) p);
-  types = λ p. it.types (act (gate_on_name o x) p);
-  straight = λ p straight. it.straight (act (gate_on_name o x) p) (applies served straight);
-  qubits = λ p. it.qubits (act (gate_on_name o x) p);
-  hs = λ p. it.hs (act (gate_on_name o x) p) ∙ counted p;
-  scoped = λ p scoped. it.scoped (act (gate_on_name o x) p) (in_scope p scoped);
+  names = λ p. it.names (act (gate_on_name o k) p);
+  types = λ p. it.types (act (gate_on_name o k) p);
+  straight = λ p straight. it.straight (act (gate_on_name o k) p) (applies served straight);
+  qubits = λ p. it.qubits (act (gate_on_name o k) p);
+  hs = λ p. it.hs (act (gate_on_name o k) p) ∙ counted p;
+  scoped = λ p scoped. it.scoped (act (gate_on_name o k) p) (in_scope p scoped);
   operands = adds.operands;
-  placed = adds.placed;
+  size = adds.size;
   few = adds.few;
   light = adds.light;
-  near = adds.near;
   few_qubits = it.few_qubits;
   few_h = room;
 }
@@ -191,25 +188,24 @@ applies_sketch ds s o a x served it bound room = record {
     n : ℕ
     n = length s.nodes
 
-    at : List ℕ
-    at = s.reached ∷ (s.reached + 1) ∷ (s.reached + 6) ∷ []
+    adds : AddsCounts t rest s (gate_nodes o k n)
+    adds = adds_counts t (gate_tree at a g o x rest) rest s (gate_nodes o k n) it refl (omega arith) (omega arith) (omega arith)
 
-    adds : AddsPiece ds s (piece_of o a) (gate_nodes o x n) at (s.reached + 9)
-    adds = adds_piece ds s (piece_of o a) (gate_nodes o x n) at (s.reached + 9) it refl refl (omega arith) (omega arith) (omega arith)
+    behind : line_of [] t ≡ option_map (λ p. it.around (act (gate_on_name o k) p)) (line_of s.bound rest)
+    behind =
+        it.behind ∙ ap (option_map it.around) (gate_line at a g o x rest s.bound served ∙ ap (λ m. gate_before o m (line_of s.bound rest)) bound)
+        ∙ option_map-map it.around (λ p. act (gate_on_name o k) p) (line_of s.bound rest)
 
-    behind : (rest : List Piece) → process_behind [] ((ds ++ piece_of o a ∷ []) ++ rest) ≡ option_map (λ p. it.around (act (gate_on_name o x) p)) (process_behind s.bound rest)
-    behind rest =
-        ap (process_behind []) (append_assoc ds (piece_of o a ∷ []) rest) ∙ it.behind (piece_of o a ∷ rest)
-        ∙ ap (option_map it.around) (gate_piece o a s.bound rest served ∙ ap (λ t. gate_before o t (process_behind s.bound rest)) bound)
-        ∙ option_map-map it.around (λ p. act (gate_on_name o x) p) (process_behind s.bound rest)
-
-    listed : (p : Process) → (s.nodes ++ gate_nodes o x n) ++ process_nodes (length (s.nodes ++ gate_nodes o x n)) p ≡ process_nodes 0 (it.around (act (gate_on_name o x) p))
+    listed : (p : Process)
+        → (s.nodes ++ gate_nodes o k n) ++ process_nodes (length (s.nodes ++ gate_nodes o k n)) p ≡ process_nodes 0 (it.around (act (gate_on_name o k) p))
     listed p =
-        let size : length (s.nodes ++ gate_nodes o x n) ≡ n + 1 + 2 = length-append s.nodes (gate_nodes o x n) ∙ omega arith in
-        append_assoc s.nodes (gate_nodes o x n) _ ∙ ap (λ m. s.nodes ++ (gate_nodes o x n ++ process_nodes m p)) size ∙ it.listed (act (gate_on_name o x) p)
+        let size : length (s.nodes ++ gate_nodes o k n) ≡ n + 1 + 2 = length-append s.nodes (gate_nodes o k n) ∙ omega arith in
+        append_assoc s.nodes (gate_nodes o k n) _ ∙ ap (λ m. s.nodes ++ (gate_nodes o k n ++ process_nodes m p)) size ∙ it.listed (act (gate_on_name o k) p)
 
-    counted : (p : Process) → s.h + h_applied (act (gate_on_name o x) p) ≡ s.h + h_of o + h_applied p
-    counted p = omega (arith, h_counted o x served)
+    counted : (p : Process) → s.h + h_applied (act (gate_on_name o k) p) ≡ s.h + h_of o + h_applied p
+    counted p = omega (arith, h_counted o k served)
 
-    in_scope : (p : Process) → is_scoped (names_below (length s.bound)) p ≡ true → is_scoped (names_below (length s.bound)) (act (gate_on_name o x) p) ≡ true
-    in_scope p scoped = let name : is_bound (names_below (length s.bound)) (named x) ≡ true = bound_name (length s.bound) x (binder_within a s.bound x bound) in rw (name, scoped) refl
+    in_scope : (p : Process) → is_scoped (names_below (length s.bound)) p ≡ true → is_scoped (names_below (length s.bound)) (act (gate_on_name o k) p) ≡ true
+    in_scope p scoped =
+        let name : is_bound (names_below (length s.bound)) (named k) ≡ true = bound_name (length s.bound) k (binder_within x.name s.bound k bound) in
+        rw (name, scoped) refl
