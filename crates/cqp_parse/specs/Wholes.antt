@@ -2,9 +2,9 @@
 use Rattle.std.specs.Prelude.{◌≡◌, ◌<◌, ◌^◌, List, [], ◌∷◌, length}
 use Rattle.cqp_grammar.specs.Trees.{DefinitionTree, ProgramTree}
 use Rattle.cqp_grammar.specs.CanonicalTrees.{IsPrintable}
-use Rattle.cqp_parse.specs.Postorder.{postorder}
-use Rattle.cqp_parse.specs.Sketch.{Sketch}
-use Rattle.cqp_parse.specs.Shown.{whole}
+use Rattle.cqp_postorder.specs.Postorder.{postorder}
+use Rattle.cqp_reading.specs.Sketch.{Sketch}
+use Rattle.cqp_reading.specs.Shown.{whole}
 
 -- each body has fewer than 2^31 nodes
 abbrev pub AreFew : List DefinitionTree → Type 0

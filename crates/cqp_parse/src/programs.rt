@@ -3,15 +3,14 @@
 ghost use Rattle.std.specs.Prelude.{◌≡◌, ◌<◌, ◌^◌, List, length, map, IfOk};
 ghost use Rattle.cqp_grammar.specs.Trees.{DefinitionTree, ProgramTree};
 ghost use Rattle.cqp_program.specs.Programs.{IsListing, def_lists};
-ghost use Rattle.cqp_parse.specs.Postorder.{postorder};
-ghost use Rattle.cqp_parse.specs.Shown.{drafted};
+ghost use Rattle.cqp_postorder.specs.Postorder.{postorder};
+ghost use Rattle.cqp_reading.specs.Shown.{drafted};
 ghost use Rattle.cqp_parse.specs.Wholes.{AreFew, IsWhole};
 
 use crate::NoMemory;
-use crate::definition::Definition;
-use crate::draft::Draft;
-use crate::lists::tree_of;
+use cqp_postorder::tree_of;
 use cqp_program::{Def, Defs, Program};
+use cqp_reading::{Definition, Draft};
 use std::alloc::Global;
 
 /// The program of a draft to which nothing is missing.

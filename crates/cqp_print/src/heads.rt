@@ -6,6 +6,7 @@ ghost use Rattle.cqp_grammar.specs.declared.token.Reserved.TheVariants.{Measure,
 ghost use Rattle.cqp_grammar.specs.declared.token.Symbol.TheVariants.{Applies, Open};
 ghost use Rattle.cqp_grammar.specs.Trees.{Parameter};
 ghost use Rattle.cqp_grammar.specs.Canonical.{in_parentheses};
+ghost use Rattle.cqp_grammar.specs.Grammar.{gate_key};
 ghost use Rattle.cqp_syntax.specs.TypeTrees.{TypeTree};
 ghost use Rattle.cqp_program.specs.Listing.{param, ty_tree};
 ghost use Rattle.cqp_print.specs.Written.{after};
@@ -14,10 +15,10 @@ ghost use Rattle.cqp_print.specs.Trees.{head_of, HasTypes};
 ghost use Rattle.cqp_print.specs.Trees.{new_head, qbit_head, input_head, output_head};
 
 use crate::NoMemory;
-use crate::spelling::gate_key;
 use crate::writer::Writer;
 use cqp_grammar::{Reserved, Symbol};
 use cqp_program::{Occ, Param, TreeNode, TyTree};
+use cqp_syntax::Op;
 
 impl Writer {
     /// Writes what of a node stands before its parts.
@@ -131,5 +132,21 @@ impl Writer {
         self.sign(Symbol::Open)?;
         self.names(args)?;
         self.sign(Symbol::Close)
+    }
+}
+
+/// The reserved word of a gate.
+fn gate_key(op: Op) -> Reserved
+    ensures { result ≡ gate_key op }
+{
+    match op {
+        Op::I => Reserved::I,
+        Op::X => Reserved::X,
+        Op::Y => Reserved::Y,
+        Op::Z => Reserved::Z,
+        Op::H => Reserved::H,
+        Op::S => Reserved::S,
+        Op::T => Reserved::T,
+        Op::CNot => Reserved::CNot,
     }
 }

@@ -2,6 +2,8 @@
 #![tactic(auto)]
 
 mod program;
+#[cfg(test)]
+mod tests;
 mod tree;
 
 pub use cqp_outside::NoMemory;

@@ -1,0 +1,73 @@
+-- How many nodes, fragments and offsets a subtree has, and how many subtrees are pending.
+use Rattle.std.proofs.Common.{◌≡◌, ℕ, ◌+◌, ◌≤◌, List, [], ◌∷◌, length, refl, ◌∙◌, ap}
+use Rattle.std.proofs.Common.{length-append, arith}
+use Rattle.cqp_postorder.specs.Subtrees.{Subtree, over, Subtrees, no_parts, part_and, length_of}
+use Rattle.cqp_postorder.specs.Subtrees.{size_of, sizes_of, nodes_of, all_nodes_of, offsets_of}
+use Rattle.cqp_postorder.specs.Subtrees.{all_offsets_of, pieces_of, all_pieces_of, Pending, nothing}
+use Rattle.cqp_postorder.specs.Subtrees.{behind, pending_count, pending_numbers, AreLast}
+
+mutual
+  -- a subtree has as many nodes as its size says
+  pub length-nodes_of : (n : ℕ) (t : Subtree) → length (nodes_of n t) ≡ size_of t
+  length-nodes_of n (over k at ts) = omega (arith, length-all_nodes_of (n + 1) ts)
+
+  pub length-all_nodes_of : (n : ℕ) (ts : Subtrees) → length (all_nodes_of n ts) ≡ sizes_of ts
+  length-all_nodes_of n no_parts = refl
+  length-all_nodes_of n (part_and t ts) =
+      omega (
+        arith,
+        length-append (nodes_of n t) (all_nodes_of (n + size_of t) ts),
+        length-nodes_of n t,
+        length-all_nodes_of (n + size_of t) ts,
+      )
+
+mutual
+  -- and as many fragments
+  pub length-pieces_of : (t : Subtree) → length (pieces_of t) ≡ size_of t
+  length-pieces_of (over k at ts) =
+      omega (
+        arith,
+        length-append (all_pieces_of ts) ((record { kind = k; at = at }) ∷ []),
+        length-all_pieces_of ts,
+      )
+
+  pub length-all_pieces_of : (ts : Subtrees) → length (all_pieces_of ts) ≡ sizes_of ts
+  length-all_pieces_of no_parts = refl
+  length-all_pieces_of (part_and t ts) =
+      omega (
+        arith,
+        length-append (pieces_of t) (all_pieces_of ts),
+        length-pieces_of t,
+        length-all_pieces_of ts,
+      )
+
+mutual
+  -- and as many offsets
+  pub length-offsets_of : (t : Subtree) → length (offsets_of t) ≡ size_of t
+  length-offsets_of (over k at ts) = omega (arith, length-all_offsets_of ts)
+
+  pub length-all_offsets_of : (ts : Subtrees) → length (all_offsets_of ts) ≡ sizes_of ts
+  length-all_offsets_of no_parts = refl
+  length-all_offsets_of (part_and t ts) =
+      omega (
+        arith,
+        length-append (offsets_of t) (all_offsets_of ts),
+        length-offsets_of t,
+        length-all_offsets_of ts,
+      )
+
+-- a subtree has at least one node
+pub length_within_sizes : (ts : Subtrees) → length_of ts ≤ sizes_of ts
+length_within_sizes no_parts = omega arith
+length_within_sizes (part_and (over k at us) ts) = omega (arith, length_within_sizes ts)
+
+-- each pending subtree has a number
+pub length-pending_numbers : (ps : Pending) → length (pending_numbers ps) ≡ pending_count ps
+length-pending_numbers nothing = refl
+length-pending_numbers (behind ps n t) =
+    omega (arith, length-append (pending_numbers ps) (n ∷ []), length-pending_numbers ps)
+
+-- there are as many numbers of parts as the node has parts
+pub last_many : (sizes : List ℕ) (end count : ℕ) (ps : Pending) (found : List ℕ)
+    → found ≡ pending_numbers ps → AreLast sizes end count ps → length found ≡ count
+last_many sizes end count ps found e h = ap length e ∙ length-pending_numbers ps ∙ h.counted

@@ -1,0 +1,141 @@
+-- The numbers of a node's parts, found from the last to the first.
+use Rattle.std.proofs.Common.{◌≡◌, ℕ, ◌+◌, ◌-◌, ◌<◌, ◌≤◌, List, [], ◌∷◌, ◌++◌, length, get_or, take}
+use Rattle.std.proofs.Common.{refl, sym, ◌∙◌, ap, subst, append_assoc, append-nil, length-append}
+use Rattle.std.proofs.Common.{arith, reverse}
+use Rattle.std.proofs.lemmas.List.{get_or_push, take_at, reverse-append}
+use Rattle.cqp_postorder.specs.Subtrees.{Subtree, over, Subtrees, no_parts, part_and, size_of}
+use Rattle.cqp_postorder.specs.Subtrees.{sizes_of, piece_sizes, all_piece_sizes, Pending, nothing}
+use Rattle.cqp_postorder.specs.Subtrees.{behind, pending_numbers, pending_sizes, AreAdjacent}
+use Rattle.cqp_postorder.specs.Subtrees.{AreLast, IsLastSize}
+
+mutual
+  -- a subtree has as many sizes of fragments as its own size says
+  pub length-piece_sizes : (t : Subtree) → length (piece_sizes t) ≡ size_of t
+  length-piece_sizes (over k at ts) =
+      omega (
+        arith,
+        length-append (all_piece_sizes ts) ((1 + sizes_of ts) ∷ []),
+        length-all_piece_sizes ts,
+      )
+
+  pub length-all_piece_sizes : (ts : Subtrees) → length (all_piece_sizes ts) ≡ sizes_of ts
+  length-all_piece_sizes no_parts = refl
+  length-all_piece_sizes (part_and t ts) =
+      omega (
+        arith,
+        length-append (piece_sizes t) (all_piece_sizes ts),
+        length-piece_sizes t,
+        length-all_piece_sizes ts,
+      )
+
+-- of these subtrees some are left, and the numbers of the others are found, the last first
+pub record Walked (whole : Pending) (rest : List ℕ) (number left : ℕ) (found : List ℕ) : Type 0
+  where
+    pub ps : Pending
+    pub last : AreLast rest number left ps
+    pub numbers : pending_numbers whole ≡ pending_numbers ps ++ reverse found
+
+-- at first all are left
+pub walked_none : (whole : Pending) (sizes : List ℕ) (end count : ℕ) → AreLast sizes end count whole
+    → Walked whole sizes end count []
+walked_none whole sizes end count h = record { ps = whole; last = h; numbers = simp append-nil }
+
+-- a number that is found stands before those that were found
+found_more : (xs found : List ℕ) (n m : ℕ) → n ≡ m
+    → (xs ++ n ∷ []) ++ reverse found ≡ xs ++ reverse (found ++ m ∷ [])
+found_more xs found n m e = rw (e, reverse-append, append_assoc) refl
+
+-- where one is left, its size is the last
+pub record PartStep (whole : Pending) (rest : List ℕ) (number left : ℕ) (found : List ℕ) (size : ℕ)
+    : Type 0 where
+  pub fits : size ≤ length rest
+  pub within : size ≤ number
+  pub next : Walked whole (take (length rest - size) rest) (number - size) (left - 1)
+      (found ++ (number - size) ∷ [])
+
+-- the last of the sizes, as it is read
+pub read_last : (sizes : List ℕ) → IsLastSize (get_or sizes (length sizes - 1) 0) sizes
+read_last sizes front last e =
+    let place : length front ≡ length sizes - 1 =
+    omega (arith, ap length e, length-append front (last ∷ [])) in
+    ap (λ l. get_or l (length sizes - 1) 0) e ∙ get_or_push front last 0 (length sizes - 1) place
+
+step_at : (whole : Pending) (rest : List ℕ) (number left : ℕ) (found : List ℕ) (size : ℕ)
+    (ps : Pending)
+    → AreLast rest number left ps
+    → pending_numbers whole ≡ pending_numbers ps ++ reverse found → 0 < left → IsLastSize size rest
+    → PartStep whole rest number left found size
+step_at whole rest number left found size nothing last numbers some is =
+    absurd (omega (arith, last.counted))
+step_at whole rest number left found size (behind ps n (over k at ts)) last numbers some is =
+    let own = all_piece_sizes ts in
+    let front = last.before ++ pending_sizes ps in
+    let root = 1 + sizes_of ts in
+    let whole_is : rest ≡ front ++ (own ++ root ∷ []) =
+    last.are ∙ sym (append_assoc last.before (pending_sizes ps) (own ++ root ∷ [])) in
+    let split : rest ≡ (front ++ own) ++ root ∷ [] =
+    whole_is ∙ sym (append_assoc front own (root ∷ [])) in
+    let sized : size ≡ 1 + sizes_of ts = is (front ++ own) root split in
+    let long : length rest ≡ length front + length (own ++ root ∷ []) =
+    ap length whole_is ∙ length-append front (own ++ root ∷ []) in
+    let own_long : length (own ++ root ∷ []) ≡ 1 + sizes_of ts = length-piece_sizes (over k at ts) in
+    let ends_at : n + (1 + sizes_of ts) ≡ number = last.adjacent.0 in
+    let starts : n ≡ number - size = omega arith in
+    let place : length front ≡ length rest - size = omega arith in
+    record {
+      fits = omega arith;
+      within = omega arith;
+      next = record {
+        ps = ps;
+        last = record {
+          before = last.before;
+          are =
+              ap (λ l. take (length rest - size) l) whole_is
+              ∙ take_at front (own ++ root ∷ []) (length rest - size) place;
+          counted = omega (arith, last.counted);
+          adjacent = subst (λ e. AreAdjacent e ps) starts last.adjacent.1;
+        };
+        numbers = numbers ∙ found_more (pending_numbers ps) found n (number - size) starts;
+      };
+    }
+
+-- the step from one number to the next
+pub part_step : (whole : Pending) (rest : List ℕ) (number left : ℕ) (found : List ℕ) (size : ℕ)
+    → Walked whole rest number left found → 0 < left
+    → IsLastSize size rest → PartStep whole rest number left found size
+part_step whole rest number left found size w some is =
+    step_at whole rest number left found size w.ps w.last w.numbers some is
+
+some_at : (rest : List ℕ) (number left : ℕ) (ps : Pending) → AreLast rest number left ps → 0 < left
+    → 0 < length rest
+some_at rest number left nothing last some = absurd (omega (arith, last.counted))
+some_at rest number left (behind ps n (over k at ts)) last some =
+    let t = over k at ts in
+    let own = length-append (pending_sizes ps) (piece_sizes t) in
+    omega (
+      arith,
+      ap length last.are,
+      length-append last.before (pending_sizes ps ++ piece_sizes t),
+      own,
+      length-piece_sizes t,
+    )
+
+-- where one is left, there is a size
+pub part_some : (whole : Pending) (rest : List ℕ) (number left : ℕ) (found : List ℕ)
+    → Walked whole rest number left found → 0 < left → 0 < length rest
+part_some whole rest number left found w some = some_at rest number left w.ps w.last some
+
+all_at : (whole : Pending) (rest : List ℕ) (number : ℕ) (found : List ℕ) (ps : Pending)
+    → AreLast rest number 0 ps
+    → pending_numbers whole ≡ pending_numbers ps ++ reverse found
+    → reverse found ≡ pending_numbers whole
+all_at whole rest number found nothing last numbers = sym numbers
+all_at whole rest number found (behind ps n t) last numbers = absurd (omega (arith, last.counted))
+
+-- where none is left, all numbers are found
+pub walked_all : (whole : Pending) (rest : List ℕ) (number left : ℕ) (found : List ℕ) → left ≡ 0
+    → Walked whole rest number left found
+    → reverse found ≡ pending_numbers whole
+walked_all whole rest number left found none w =
+    all_at whole rest number found w.ps (subst (λ k. AreLast rest number k w.ps) none w.last)
+    w.numbers

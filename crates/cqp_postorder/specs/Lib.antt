@@ -1,0 +1,3 @@
+pub mod ListExamples
+pub mod Postorder
+pub mod Subtrees
