@@ -1,6 +1,8 @@
 -- An appended event keeps the rule.
 use Rattle.std.proofs.Common.{◌≡◌, ◌≢◌, ◌+◌, ◌%◌, ◌^◌, ◌≤◌, ◌∷◌, ◌++◌, ◌∙◌}
-use Rattle.std.proofs.Common.{ℕ, true, false, List, [], length, set, get_or, Option, Some, None, refl, sym, ap, subst, ⊎_elim, arith, length-append, eq-eqb, ne_eqb, mod-eq_of_lt}
+use Rattle.std.proofs.Common.{ℕ, true, false, List, [], length, set, get_or, Option, Some, None}
+use Rattle.std.proofs.Common.{refl, sym, ap, subst, ⊎_elim, arith, length-append, eq-eqb, ne_eqb}
+use Rattle.std.proofs.Common.{mod-eq_of_lt}
 use Rattle.std.proofs.lemmas.Bool.{cases_Bool}
 use mathlib.Core.Logic.{◌⊎◌, dite}
 use mathlib.Core.Option.{some, none, some-injective}
@@ -17,7 +19,8 @@ use Rattle.cqp_book.specs.Rule.{Fits, KeptAt, Kept}
 use Rattle.cqp_book.specs.Steps.{sealed, appended, Appends, CanAppend, IsReady}
 use Rattle.cqp_book.specs.declared.view.View.{View}
 use Rattle.cqp_book.specs.declared.view.View.TheVariants.{Spent, OfBook, OfHold}
-use Rattle.cqp_book.proofs.PairLemmas.{count-put_all_in, count-put_all_out, find_counts, count_finds}
+use Rattle.cqp_book.proofs.PairLemmas.{count-put_all_in, count-put_all_out, find_counts}
+use Rattle.cqp_book.proofs.PairLemmas.{count_finds}
 use Rattle.cqp_book.proofs.ViewLemmas.{total-set, two_within_total, total_of_none}
 use Rattle.cqp_book.proofs.Kept.{keys_in, owned, moved}
 use Rattle.cqp_book.proofs.Sealed.{none_some, run_after, same_cell, current_after, touches}

@@ -1,6 +1,7 @@
 -- What a book keeps inside stays so, and what its pairs become.
 use Rattle.std.proofs.Common.{◌≡◌, ◌+◌, ◌^◌, ◌<◌, ◌∷◌, ◌++◌, ◌∙◌}
-use Rattle.std.proofs.Common.{ℕ, true, cond, List, [], length, Option, Some, None, refl, sym, ap, subst, arith, length-append, eq-eqb, ne_eqb, eqb}
+use Rattle.std.proofs.Common.{ℕ, true, cond, List, [], length, Option, Some, None, refl, sym, ap}
+use Rattle.std.proofs.Common.{subst, arith, length-append, eq-eqb, ne_eqb, eqb}
 use mathlib.Core.Logic.{dite}
 use native.Mathlib.Decide.{ℕ_discrete}
 use Rattle.atomic_table.specs.Table.{Me}
@@ -16,10 +17,12 @@ use Rattle.cqp_book.specs.Steps.{appended, Knows, kept_back, joined, CanAppend}
 use Rattle.cqp_book.specs.Inside.{IsBook}
 use Rattle.cqp_book.specs.declared.view.View.{View}
 use Rattle.cqp_book.specs.declared.view.View.TheVariants.{OfBook, OfHold}
-use Rattle.cqp_book.proofs.PairLemmas.{find-without_same, find-without_other, count-without_same, count-without_other}
+use Rattle.cqp_book.proofs.PairLemmas.{find-without_same, find-without_other, count-without_same}
+use Rattle.cqp_book.proofs.PairLemmas.{count-without_other}
 use Rattle.cqp_book.proofs.PairLemmas.{count-distinct, find-distinct, find_counts}
 use Rattle.cqp_book.proofs.RunLemmas.{front_after-snoc}
-use Rattle.cqp_book.proofs.Sealed.{whole, run_after, current_after, find_after, count_after, away_after}
+use Rattle.cqp_book.proofs.Sealed.{whole, run_after, current_after, find_after, count_after}
+use Rattle.cqp_book.proofs.Sealed.{away_after}
 use Rattle.cqp_book.proofs.Handed.{current_without}
 
 -- no cell is there

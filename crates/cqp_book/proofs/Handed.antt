@@ -1,5 +1,6 @@
 -- A pair that is split off or taken in keeps the rule.
-use Rattle.std.proofs.Common.{◌≡◌, ◌≢◌, ℕ, ◌+◌, ◌≤◌, List, [], ◌∷◌, ◌++◌, set, Option, Some, refl, sym, ap, ◌∙◌, subst, ⊎_elim, arith, eq-eqb, ne_eqb}
+use Rattle.std.proofs.Common.{◌≡◌, ◌≢◌, ℕ, ◌+◌, ◌≤◌, List, [], ◌∷◌, ◌++◌, set, Option, Some, refl}
+use Rattle.std.proofs.Common.{sym, ap, ◌∙◌, subst, ⊎_elim, arith, eq-eqb, ne_eqb}
 use mathlib.Core.Logic.{dite}
 use mathlib.Core.Option.{some}
 use native.Mathlib.Decide.{ℕ_discrete}
@@ -15,7 +16,8 @@ use Rattle.cqp_book.specs.Rule.{Fits, KeptAt, Kept}
 use Rattle.cqp_book.specs.Steps.{kept_back, held, given, joined}
 use Rattle.cqp_book.specs.declared.view.View.{View}
 use Rattle.cqp_book.specs.declared.view.View.TheVariants.{Spent, OfBook, OfHold}
-use Rattle.cqp_book.proofs.PairLemmas.{find-without_same, find-without_other, count-without_same, count-without_other, find_counts}
+use Rattle.cqp_book.proofs.PairLemmas.{find-without_same, find-without_other, count-without_same}
+use Rattle.cqp_book.proofs.PairLemmas.{count-without_other, find_counts}
 use Rattle.cqp_book.proofs.ViewLemmas.{get_set, total-set, total-snoc}
 use Rattle.cqp_book.proofs.Kept.{keys_in, owned}
 use Rattle.cqp_book.proofs.Sealed.{none_some}

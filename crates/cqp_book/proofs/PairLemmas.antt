@@ -1,6 +1,7 @@
 -- What is found and counted in lists of pairs.
 use Rattle.std.proofs.Common.{◌≡◌, ◌≢◌, ◌+◌, ◌<◌, ◌≤◌, ◌||◌, ◌∷◌, ◌++◌, ◌∙◌}
-use Rattle.std.proofs.Common.{ℕ, eqb, true, false, cond, List, [], Option, Some, None, refl, sym, ap, arith, eq-eqb, ne_eqb}
+use Rattle.std.proofs.Common.{ℕ, eqb, true, false, cond, List, [], Option, Some, None, refl, sym}
+use Rattle.std.proofs.Common.{ap, arith, eq-eqb, ne_eqb}
 use Rattle.std.proofs.lemmas.Bool.{true≢false, false≢true}
 use mathlib.Core.Logic.{dite}
 use native.Mathlib.Decide.{ℕ_discrete}

@@ -1,5 +1,6 @@
 -- An event that is enabled on the book's pairs, among which are those that it needs, goes on with the run, and its cells are the history's.
-use Rattle.std.proofs.Common.{◌≡◌, ℕ, ◌≤◌, true, false, List, [], ◌∷◌, ◌++◌, Option, Some, None, IsSome, refl, sym, ap, ◌∙◌, ⊎_elim, inl, inr}
+use Rattle.std.proofs.Common.{◌≡◌, ℕ, ◌≤◌, true, false, List, [], ◌∷◌, ◌++◌, Option, Some, None}
+use Rattle.std.proofs.Common.{IsSome, refl, sym, ap, ◌∙◌, ⊎_elim, inl, inr}
 use Rattle.std.proofs.lemmas.Bool.{cases_Bool, or_cases, false≢true}
 use mathlib.Core.Logic.{◌⊎◌}
 use Rattle.cqp_book.specs.Keys.{has, Store, find, AgreeOn}
@@ -8,7 +9,8 @@ use Rattle.cqp_book.specs.Meaning.{Meaning, touched}
 use Rattle.cqp_book.specs.Run.{front_after, cell_after, IsRun, AreCurrent}
 use Rattle.cqp_book.specs.Laws.{IsLawful}
 use Rattle.cqp_book.specs.Steps.{sealed, CanAppend}
-use Rattle.cqp_book.proofs.PairLemmas.{find-put_all_in, find-put_all_out, count-put_all_in, count-put_all_out, has-append}
+use Rattle.cqp_book.proofs.PairLemmas.{find-put_all_in, find-put_all_out, count-put_all_in}
+use Rattle.cqp_book.proofs.PairLemmas.{count-put_all_out, has-append}
 use Rattle.cqp_book.proofs.RunLemmas.{cell_after-snoc, run_snoc}
 
 -- a cell and no cell differ

@@ -1,5 +1,7 @@
--- The machine of the tests: one counter, at key 0, which begins at the opening. An event adds a number to it. No public clause cites this module.
-use Rattle.std.specs.Prelude.{◌≡◌, ℕ, ◌+◌, ◌==◌, [], ◌∷◌, Option, Some, None, IsSome, if◌then◌else◌, refl}
+-- The machine of the tests: one counter, at key 0, which begins at the opening. An event adds a
+-- number to it. No public clause cites this module.
+use Rattle.std.specs.Prelude.{◌≡◌, ℕ, ◌+◌, ◌==◌, [], ◌∷◌, Option, Some, None, IsSome, if◌then◌else◌}
+use Rattle.std.specs.Prelude.{refl}
 use Rattle.std.proofs.Common.{ap, subst, eq-eqb, ne_eqb}
 use Rattle.std.proofs.lemmas.Bool.{false≢true, true≢false}
 use mathlib.Core.Logic.{dite}
@@ -45,4 +47,8 @@ counter_makes_new o es e k run on h = absurd (false≢true h)
 
 -- so it is a machine
 pub counter_lawful : IsLawful counter
-counter_lawful = record { local = counter_local; leaves_others = counter_leaves_others; makes_new = counter_makes_new }
+counter_lawful = record {
+  local = counter_local;
+  leaves_others = counter_leaves_others;
+  makes_new = counter_makes_new;
+}

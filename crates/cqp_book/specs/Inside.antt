@@ -11,10 +11,12 @@ use Rattle.cqp_book.specs.Views.{pairs_of}
 use Rattle.cqp_book.specs.declared.view.View.{View}
 use Rattle.cqp_book.specs.declared.view.View.TheVariants.{Spent, OfBook, OfHold}
 
--- The table `id`, opened for o, has one word and no slot. The seat is of the table `of`, has the view of `me` and has taken no slot.
--- The front and the events are those that the seat has seen, and there is room for as many as the reserve says.
+-- The table `id`, opened for o, has one word and no slot. The seat is of the table `of`, has the
+-- view of `me` and has taken no slot. The front and the events are those that the seat has seen,
+-- and there is room for as many as the reserve says.
 pub record IsBook {O F C E : Type 0} (m : Meaning O F C E) (id : TableId) (o : O) (of : TableId)
-    (me : Me (Unit {0}) (View O C E)) (front : F) (events : List E) (room reserve : ℕ) : Type 0 where
+    (me : Me (Unit {0}) (View O C E)) (front : F) (events : List E) (room reserve : ℕ)
+    : Type 0 where
   pub table : of ≡ id
   pub one_word : id.words ≡ 1
   pub no_slot : id.slots ≡ 0

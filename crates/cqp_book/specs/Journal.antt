@@ -11,7 +11,15 @@ Identity = TableId
 
 -- some identity, which a trait that carries one may have at `Brand`, where each call picks its own
 abbrev pub some_identity : Identity
-some_identity = record { words = 0; slots = 0; views_name = 0; atom = 0; block = 0; offset = 0; slot_names = [] }
+some_identity = record {
+  words = 0;
+  slots = 0;
+  views_name = 0;
+  atom = 0;
+  block = 0;
+  offset = 0;
+  slot_names = [];
+}
 
 -- a book: `pairs` are the keys and cells with it, of which contracts read what is found at a key
 pub record Journal (O C E : Type 0) : Type 0 where
@@ -56,12 +64,16 @@ module _ {O F C E : Type 0} (m : Meaning O F C E) where
     pub opening : h.opening ≡ b.opening
     pub current : cell_of b h.key ≡ Some h.cell
 
-  -- an event is enabled on the front and on the cells with the book, those that it needs are with the book, and there is room
+  -- an event is enabled on the front and on the cells with the book, those that it needs are with
+  -- the book, and there is room
   pub record MaySeal (b : Journal O C E) (e : E) : Type 0 where
     pub enabled : m.Enabled b.opening (front_of b) (find b.pairs) e
-    pub at_hand : (k : ℕ) → has k (m.needs b.opening (front_of b) e) ≡ true → IsSome (find b.pairs k)
+    pub at_hand : (k : ℕ) → has k (m.needs b.opening (front_of b) e) ≡ true
+        → IsSome (find b.pairs k)
     pub room : length b.history < b.reserve
 
   -- a live key that isn't with a book before stays away from it, and keeps its cell
   abbrev pub KeepsAway : Journal O C E → Journal O C E → Type 0
-  KeepsAway b b' = (k : ℕ) (c : C) → cell_of b k ≡ Some c → find b.pairs k ≡ None → (cell_of b' k ≡ Some c) × (find b'.pairs k ≡ None)
+  KeepsAway b b' =
+      (k : ℕ) (c : C) → cell_of b k ≡ Some c → find b.pairs k ≡ None
+      → (cell_of b' k ≡ Some c) × (find b'.pairs k ≡ None)

@@ -3,8 +3,9 @@ use Rattle.std.specs.Prelude.{ℕ, List, ◌++◌}
 use Rattle.cqp_book.specs.Keys.{Store}
 
 -- An opening has a front, and cells, of which the first pair of a key counts.
--- On a front, an event needs the cells at some keys, those that it ends among them, and makes cells at other keys.
--- The front after it is a function of the front before and the event alone, while the cells after it may depend on all.
+-- On a front, an event needs the cells at some keys, those that it ends among them, and makes cells
+-- at other keys. The front after it is a function of the front before and the event alone, while
+-- the cells after it may depend on all.
 pub record Meaning (O F C E : Type 0) : Type 1 where
   pub front : O → F
   pub cells : O → List (ℕ × C)

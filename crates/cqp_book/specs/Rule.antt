@@ -11,15 +11,18 @@ use Rattle.cqp_book.specs.declared.view.View.{View}
 use Rattle.cqp_book.specs.declared.view.View.TheVariants.{Spent, OfBook, OfHold}
 
 module _ {O F C E : Type 0} (m : Meaning O F C E) where
-  -- the view of the seat j, where the book's seat is `seat` and has seen these events: a hold's cell is what they give
+  -- the view of the seat j, where the book's seat is `seat` and has seen these events: a hold's
+  -- cell is what they give
   abbrev pub Fits : O → ℕ → List E → ℕ → View O C E → Type 0
   Fits o seat seen j Spent = Unit {0}
   Fits o seat seen j (OfBook o' es ps) = (j ≡ seat) × (o' ≡ o)
   Fits o seat seen j (OfHold o' k c) = (o' ≡ o) × (cell_after m o seen k ≡ Some c)
 
-  -- The seat is the book's. It has seen a run, whose length is the word, and its cells are what that run gives.
-  -- Every view has the one opening, no other seat is a book's, and no key stands twice, in one view or in two.
-  pub record KeptAt (o : O) (s : State (Unit {0}) (View O C E)) (seat : ℕ) (seen : List E) (pairs : List (ℕ × C)) : Type 0 where
+  -- The seat is the book's. It has seen a run, whose length is the word, and its cells are what
+  -- that run gives. Every view has the one opening, no other seat is a book's, and no key stands
+  -- twice, in one view or in two.
+  pub record KeptAt (o : O) (s : State (Unit {0}) (View O C E)) (seat : ℕ) (seen : List E)
+      (pairs : List (ℕ × C)) : Type 0 where
     pub word : s.words ≡ length seen ∷ []
     pub book : get_elem? s.views seat ≡ some (OfBook o seen pairs)
     pub run : IsRun m o seen

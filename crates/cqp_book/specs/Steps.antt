@@ -1,5 +1,6 @@
 -- What the steps make of views, and what they tell. No public clause cites this module.
-use Rattle.std.specs.Prelude.{◌≡◌, ℕ, ◌+◌, ◌^◌, ◌<◌, ◌≤◌, true, IsSome, List, [], ◌∷◌, ◌++◌, length, Option, Some, None}
+use Rattle.std.specs.Prelude.{◌≡◌, ℕ, ◌+◌, ◌^◌, ◌<◌, ◌≤◌, true, IsSome, List, [], ◌∷◌, ◌++◌, length}
+use Rattle.std.specs.Prelude.{Option, Some, None}
 use Rattle.atomic_table.specs.Table.{Me, Step}
 use Rattle.cqp_book.specs.Keys.{has, find}
 use Rattle.cqp_book.specs.Pairs.{count, without, put_all}
@@ -11,7 +12,8 @@ use Rattle.cqp_book.specs.declared.view.View.TheVariants.{Spent, OfBook, OfHold}
 module _ {O F C E : Type 0} (m : Meaning O F C E) where
   -- the book's pairs after an event: at the keys that it touches, what it gives on the pairs before
   abbrev pub sealed : O → List E → List (ℕ × C) → E → List (ℕ × C)
-  sealed o es ps e = put_all (m.after o (front_after m o es) (find ps) e) (touched m o (front_after m o es) e) ps
+  sealed o es ps e =
+      put_all (m.after o (front_after m o es) (find ps) e) (touched m o (front_after m o es) e) ps
 
   -- what the book's view becomes by an event
   abbrev pub appended : Option E → View O C E → View O C E
@@ -31,15 +33,18 @@ module _ {O F C E : Type 0} (m : Meaning O F C E) where
 
   -- what the book knows once it finds n in the word
   abbrev pub Knows : ℕ → View O C E → Type 0
-  Knows n (OfBook o es ps) = (n ≡ length es) × IsRun m o es × AreCurrent m o es ps × ((k : ℕ) → count k ps ≤ 1)
+  Knows n (OfBook o es ps) =
+      (n ≡ length es) × IsRun m o es × AreCurrent m o es ps × ((k : ℕ) → count k ps ≤ 1)
   Knows n _ = Unit {0}
 
   -- what the step that appends tells: the event is at the end
-  abbrev pub Appends : Option E → Step (Unit {0}) → Me (Unit {0}) (View O C E) → ℕ → Me (Unit {0}) (View O C E) → Type 0
+  abbrev pub Appends : Option E → Step (Unit {0}) → Me (Unit {0}) (View O C E) → ℕ
+      → Me (Unit {0}) (View O C E) → Type 0
   Appends said st v found w = w ≡ (appended said v.0, v.1)
 
   -- what the step that looks tells: nothing changed, and the book knows what it knows
-  abbrev pub Looks : Step (Unit {0}) → Me (Unit {0}) (View O C E) → ℕ → Me (Unit {0}) (View O C E) → Type 0
+  abbrev pub Looks : Step (Unit {0}) → Me (Unit {0}) (View O C E) → ℕ → Me (Unit {0}) (View O C E)
+      → Type 0
   Looks st v found w = (w ≡ v) × Knows found v.0
 
 module _ {O C E : Type 0} where

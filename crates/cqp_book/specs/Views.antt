@@ -28,7 +28,9 @@ module _ {O C E : Type 0} where
 
   -- the seat is a book's, which has a cell at the key
   abbrev pub HasKey : ℕ → View O C E → Type 0
-  HasKey k v = (o : O) × (es : List E) × (ps : List (ℕ × C)) × (c : C) × (v ≡ OfBook o es ps) × (find ps k ≡ Some c)
+  HasKey k v =
+      (o : O) × (es : List E) × (ps : List (ℕ × C)) × (c : C) × (v ≡ OfBook o es ps)
+      × (find ps k ≡ Some c)
 
   -- the seat is a hold's, and has taken no slot
   abbrev pub IsHoldSeat : Me (Unit {0}) (View O C E) → Type 0

@@ -1,5 +1,6 @@
 -- What the counters mean, and that they meet the laws of a machine.
-use Rattle.std.specs.Prelude.{◌≡◌, ℕ, ◌+◌, ◌^◌, ◌<◌, ◌≤◌, ◌==◌, List, [], ◌∷◌, Option, Some, None, IsSome, if◌then◌else◌, refl}
+use Rattle.std.specs.Prelude.{◌≡◌, ℕ, ◌+◌, ◌^◌, ◌<◌, ◌≤◌, ◌==◌, List, [], ◌∷◌, Option, Some, None}
+use Rattle.std.specs.Prelude.{IsSome, if◌then◌else◌, refl}
 use Rattle.std.proofs.Common.{ap, ◌∙◌, sym, subst, eq-eqb, ne_eqb, arith}
 use Rattle.std.proofs.lemmas.Bool.{false≢true, true≢false}
 use mathlib.Core.Logic.{dite}
@@ -55,12 +56,13 @@ counters = record {
 
 -- a move depends on the counter that it adds to alone
 counters_local : IsLocal counters
-counters_local o f (Add k n) s t agree on = let same : s k ≡ t k = agree k (rw (eq-eqb k k refl) refl) in (
-  subst (λ (x : Option ℕ). IsSome x) same on,
-  λ j h. dite (ℕ_discrete j k)
-      (λ z. rw (eq-eqb j k z) (ap (more n) same))
-      (λ z. absurd (false≢true (rw (ne_eqb j k z) at h))),
-)
+counters_local o f (Add k n) s t agree on =
+    let same : s k ≡ t k = agree k (rw (eq-eqb k k refl) refl) in (
+      subst (λ (x : Option ℕ). IsSome x) same on,
+      λ j h. dite (ℕ_discrete j k)
+          (λ z. rw (eq-eqb j k z) (ap (more n) same))
+          (λ z. absurd (false≢true (rw (ne_eqb j k z) at h))),
+    )
 counters_local o f Make s t agree on = (
   on,
   λ j h. dite (ℕ_discrete j f)
@@ -89,9 +91,11 @@ fresh_more f s (Add k n) fresh j up = dite (ℕ_discrete j k)
 fresh_more f s Make fresh j up = rw (ne_eqb j f (λ z. omega arith)) (fresh j (omega arith))
 
 -- so does a run
-fresh_run : (o f : ℕ) (s : Store ℕ) (es : List Move) → Fresh f s → Fresh (front_from counters o f es) (store_from counters o f s es)
+fresh_run : (o f : ℕ) (s : Store ℕ) (es : List Move) → Fresh f s
+    → Fresh (front_from counters o f es) (store_from counters o f s es)
 fresh_run o f s [] fresh = fresh
-fresh_run o f s (e ∷ es) fresh = fresh_run o (front_next f e) (moved f s e) es (fresh_more f s e fresh)
+fresh_run o f s (e ∷ es) fresh =
+    fresh_run o (front_next f e) (moved f s e) es (fresh_more f s e fresh)
 
 -- and the opening
 fresh_start : (o : ℕ) → Fresh 1 (find ((0, o) ∷ []))
@@ -106,4 +110,8 @@ counters_makes_new o es Make j run on h = dite (ℕ_discrete j (front_from count
 
 -- so they are a machine
 pub counters_lawful : IsLawful counters
-counters_lawful = record { local = counters_local; leaves_others = counters_leaves_others; makes_new = counters_makes_new }
+counters_lawful = record {
+  local = counters_local;
+  leaves_others = counters_leaves_others;
+  makes_new = counters_makes_new;
+}

@@ -30,7 +30,8 @@ impl<K: RunName> Desk<K> {
         ensures ok { IfOk result (λ s. (s.key ≡ slot.key) × (s.value ≡ slot.value + by)) }
         ensures history { IfOk result
             (λ s. self.new.book.history ≡ self.old.book.history ++ Add slot.key by ∷ []) }
-        ensures current { IfOk result (λ s. cell_of counters self.old.book slot.key ≡ Some slot.value) }
+        ensures current { IfOk result
+            (λ s. cell_of counters self.old.book slot.key ≡ Some slot.value) }
         ensures err { IfErr result (λ s. (s.key ≡ slot.key) × (s.value ≡ slot.value)) }
         ensures unchanged { OnErr result (self.new.book ≡ self.old.book) }
     {

@@ -1,5 +1,6 @@
 -- The reductions of a straight line, one by one.
-use Rattle.std.proofs.Common.{◌≡◌, ℕ, ◌+◌, ◌<◌, ◌≤◌, List, [], ◌∷◌, ◌++◌, Bool, true, refl, ap, ◌∙◌, arith, inl, inr}
+use Rattle.std.proofs.Common.{◌≡◌, ℕ, ◌+◌, ◌<◌, ◌≤◌, List, [], ◌∷◌, ◌++◌, Bool, true, refl, ap, ◌∙◌}
+use Rattle.std.proofs.Common.{arith, inl, inr}
 use Rattle.std.specs.Prelude.{Some, ◌==◌, nat_lt, ◌&&◌, ◌⊎◌}
 use Rattle.std.proofs.lemmas.Bool.{cases_lt}
 use Rattle.std.proofs.lemmas.Bool.Decides.{nat_tests}
@@ -13,7 +14,8 @@ use Rattle.cqp_trace.specs.declared.deed.Deed.TheVariants as deed
 use Rattle.cqp_cells.specs.Config.{Config, Part, flattened, goes_on, numbers_taken, start_of}
 use Rattle.cqp_cells.specs.Substitution.{slot_with, with_value}
 use Rattle.cqp_cells.specs.Step.{next, provided, is_gate_on}
-use Rattle.cqp_cells.specs.Line.{IsLineGate, is_h, is_x, gate_on_name, IsStraight, ends, binds, applies}
+use Rattle.cqp_cells.specs.Line.{IsLineGate, is_h, is_x, gate_on_name, IsStraight, ends, binds}
+use Rattle.cqp_cells.specs.Line.{applies}
 use Rattle.cqp_cells.specs.Progress.{slot_below, line_below, line_config, alone_entry}
 
 -- qubit k takes the place of the name k

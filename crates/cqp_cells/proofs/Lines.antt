@@ -1,5 +1,6 @@
 -- A run of a straight line, from its start to its end.
-use Rattle.std.proofs.Common.{◌≡◌, ℕ, zero, suc, ◌+◌, ◌<◌, List, [], ◌∷◌, ◌++◌, length, Bool, true, false, refl, sym, ap, ◌∙◌, arith, subst, inl}
+use Rattle.std.proofs.Common.{◌≡◌, ℕ, zero, suc, ◌+◌, ◌<◌, List, [], ◌∷◌, ◌++◌, length, Bool, true}
+use Rattle.std.proofs.Common.{false, refl, sym, ap, ◌∙◌, arith, subst, inl}
 use Rattle.std.specs.Prelude.{Some, ◌==◌, ◌&&◌, ◌||◌, nat_lt}
 use Rattle.std.specs.Option.{option_and_then}
 use Rattle.std.specs.List.{range_with_len}
@@ -25,10 +26,14 @@ use Rattle.cqp_cells.specs.Config.{Config, start_of}
 use Rattle.cqp_cells.specs.Step.{next, ReductionIsLeft}
 use Rattle.cqp_cells.specs.Path.{after, exponent_of}
 use Rattle.cqp_cells.specs.Lawful.{IsLawful}
-use Rattle.cqp_cells.specs.Line.{IsLineGate, is_h, is_x, gate_on_name, IsStraight, ends, binds, applies, IsLine, LeadsToState, qubits_made, h_in}
-use Rattle.cqp_cells.specs.Progress.{line_below, line_config, alone_entry, h_of, names_below, is_unmeasured, IsOnTheWay}
-use Rattle.cqp_cells.proofs.Entries.{after-append, exponent_of-append, list_all-append, norms_after_are_one, norms_before_are_one}
-use Rattle.cqp_cells.proofs.LineSteps.{line_below-zero, start_is_line, next_bind, next_gate, next_act}
+use Rattle.cqp_cells.specs.Line.{IsLineGate, is_h, is_x, gate_on_name, IsStraight, ends, binds}
+use Rattle.cqp_cells.specs.Line.{applies, IsLine, LeadsToState, qubits_made, h_in}
+use Rattle.cqp_cells.specs.Progress.{line_below, line_config, alone_entry, h_of, names_below}
+use Rattle.cqp_cells.specs.Progress.{is_unmeasured, IsOnTheWay}
+use Rattle.cqp_cells.proofs.Entries.{after-append, exponent_of-append, list_all-append}
+use Rattle.cqp_cells.proofs.Entries.{norms_after_are_one, norms_before_are_one}
+use Rattle.cqp_cells.proofs.LineSteps.{line_below-zero, start_is_line, next_bind, next_gate}
+use Rattle.cqp_cells.proofs.LineSteps.{next_act}
 
 -- the binders of a straight line are as many as the qubits that it makes
 binders_counted : {p : Process} → IsStraight p → length (binders_of p) ≡ qubits_made p

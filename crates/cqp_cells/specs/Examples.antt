@@ -55,4 +55,6 @@ one_gate_last = record { state = qubit_with one_amp one_amp; chans = 0; made = 1
 
 -- `(qbit a){a *= X}.(qbit b){b *= H}.{a *= H}.0`, which the tests run
 abbrev pub three_gates : Process
-three_gates = qbit 0 (act (gate_on_name op.X 0) (qbit 1 (act (gate_on_name op.H 1) (act (gate_on_name op.H 0) nil))))
+three_gates =
+    qbit 0
+    (act (gate_on_name op.X 0) (qbit 1 (act (gate_on_name op.H 1) (act (gate_on_name op.H 0) nil))))

@@ -23,12 +23,14 @@ abbrev pub IsBeforeH : Option Process → Type 0
 IsBeforeH None = ⊥
 IsBeforeH (Some p) = AppliesH (redex_of p)
 
--- the end is right after a path to c with so many H: nothing is left but these parts, or an H at the limit is next
+-- the end is right after a path to c with so many H: nothing is left but these parts, or an H at
+-- the limit is next
 abbrev pub IsRightEnd : Config → ℕ → End → Type 0
 IsRightEnd c h (Done left) = (ReductionIsLeft c → ⊥) × (length c.parts ≡ left)
 IsRightEnd c h (Stopped part) = (h ≡ 90) × IsBeforeH (part_at part c.parts)
 
--- the trace is one of p: a path to the last configuration, its end, and its probability in least form
+-- the trace is one of p: a path to the last configuration, its end, and its probability in least
+-- form
 pub record IsLawful (p : Process) (t : Trace) : Type 0 where
   pub last : Config
   pub path : IsPath p t.entries last

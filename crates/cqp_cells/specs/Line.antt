@@ -27,7 +27,8 @@ pub record IsGateOnName (e : Expr) : Type 0 where
 pub data IsStraight : Process → Type 0 where
   ends : IsStraight nil
   binds : {x : ℕ} {p : Process} → IsStraight p → IsStraight (qbit x p)
-  applies : {o : Op} {x : ℕ} {p : Process} → IsLineGate o → IsStraight p → IsStraight (act (gate_on_name o x) p)
+  applies : {o : Op} {x : ℕ} {p : Process} → IsLineGate o → IsStraight p
+      → IsStraight (act (gate_on_name o x) p)
 
 -- how many qubits a straight line makes
 abbrev pub qubits_made : Process → ℕ

@@ -1,5 +1,6 @@
 -- How far a run of a straight line has come. No public clause cites this module.
-use Rattle.std.specs.Prelude.{◌≡◌, ℕ, zero, suc, ◌+◌, ◌≤◌, List, [], ◌∷◌, map, Bool, true, false, nat_lt, if◌then◌else◌, Some}
+use Rattle.std.specs.Prelude.{◌≡◌, ℕ, zero, suc, ◌+◌, ◌≤◌, List, [], ◌∷◌, map, Bool, true, false}
+use Rattle.std.specs.Prelude.{nat_lt, if◌then◌else◌, Some}
 use Rattle.std.specs.List.{range_with_len, list_all}
 use Rattle.cqp_syntax.specs.declared.op.Op.{Op}
 use Rattle.cqp_syntax.specs.declared.op.Op.TheVariants as op
@@ -29,7 +30,8 @@ line_below k p = p
 
 -- a state, with one part at most
 abbrev pub line_config : ℕ → State → Process → Config
-line_config made s p = record { state = s; chans = 0; made = made; parts = goes_on 0 made (flattened p) }
+line_config made s p =
+    record { state = s; chans = 0; made = made; parts = goes_on 0 made (flattened p) }
 
 -- the names below k, the last first
 abbrev pub names_below : ℕ → List ℕ
@@ -61,7 +63,8 @@ pub record IsRest (k h : ℕ) (p : Process) : Type 0 where
 -- the entries lead from the root to the rest of the line
 pub record IsOnTheWay (root p : Process) (es : List Entry) (v : Scaled) : Type 0 where
   pub made : ℕ
-  pub leads : after (start_of root) es ≡ Some (line_config made v.state (line_below v.state.qubits p))
+  pub leads : after (start_of root) es
+      ≡ Some (line_config made v.state (line_below v.state.qubits p))
   pub rest : IsRest v.state.qubits v.h p
   pub exponent : exponent_of es ≡ v.h
   pub unmeasured : list_all (λ e. is_unmeasured e.deed) es ≡ true

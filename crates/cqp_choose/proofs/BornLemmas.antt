@@ -1,10 +1,13 @@
 -- The places that a word reaches.
-use Rattle.std.proofs.Common.{◌≡◌, ◌≢◌, ℕ, zero, suc, ◌+◌, ◌-◌, ◌*◌, ◌<◌, ◌≤◌, ◌^◌, List, length, take, arith, sym, ap, ◌∙◌, subst, inl, inr, ◌⊎◌}
+use Rattle.std.proofs.Common.{◌≡◌, ◌≢◌, ℕ, zero, suc, ◌+◌, ◌-◌, ◌*◌, ◌<◌, ◌≤◌, ◌^◌, List, length}
+use Rattle.std.proofs.Common.{take, arith, sym, ap, ◌∙◌, subst, inl, inr, ◌⊎◌}
 use Rattle.std.proofs.lemmas.Int.{ints, unsigned_abs-mul}
 use Rattle.std.proofs.Math.Nat.{mul-le-mul}
 use Rattle.std.specs.Prelude.{ℤ, pos, nat_abs, ◌-ℤ◌, ◌*ℤ◌}
 use Rattle.cqp_ring.specs.declared.root.Root.{Root}
-use Rattle.cqp_ring.specs.Root.{IsAtLeastZero, IsAtMost, IsLess, IsProportional, root_at, root_difference, root_product, root_sum, root_total, whole_root, zero_root}
+use Rattle.cqp_ring.specs.Root.{IsAtLeastZero, IsAtMost, IsLess, IsProportional, root_at}
+use Rattle.cqp_ring.specs.Root.{root_difference, root_product, root_sum, root_total, whole_root}
+use Rattle.cqp_ring.specs.Root.{zero_root}
 use Rattle.cqp_choose.specs.Odds.{IsFair}
 use Rattle.cqp_choose.specs.Picks.{IsBornIndex, IsReached}
 use Rattle.cqp_choose.proofs.OddsLemmas.{same_root, one_more, all_of_them, total_apart, total_above}

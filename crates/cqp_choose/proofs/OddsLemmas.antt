@@ -1,12 +1,14 @@
 -- Sums of odds: their parts, and one more odd.
-use Rattle.std.proofs.Common.{◌≡◌, ◌≢◌, ℕ, zero, suc, ◌+◌, ◌*◌, ◌<◌, ◌≤◌, List, [], ◌∷◌, length, take, arith, sym, ap, ◌∙◌, inl, inr, ◌⊎◌, add-one}
+use Rattle.std.proofs.Common.{◌≡◌, ◌≢◌, ℕ, zero, suc, ◌+◌, ◌*◌, ◌<◌, ◌≤◌, List, [], ◌∷◌, length}
+use Rattle.std.proofs.Common.{take, arith, sym, ap, ◌∙◌, inl, inr, ◌⊎◌, add-one}
 use Rattle.std.proofs.Math.Seq.{take-length}
 use Rattle.std.proofs.Math.Nat.{mul-le-mul}
 use Rattle.std.proofs.lemmas.Bool.{cases_lt}
 use Rattle.std.proofs.lemmas.Int.{ints}
 use Rattle.std.specs.Prelude.{ℤ, pos, negsuc, neg_ℤ, nat_abs, ◌+ℤ◌, ◌*ℤ◌, ◌≤ℤ◌, All}
 use Rattle.cqp_ring.specs.declared.root.Root.{Root}
-use Rattle.cqp_ring.specs.Root.{IsAtLeastZero, RootFits, root_at, root_conjugate, root_sum, root_total, zero_root}
+use Rattle.cqp_ring.specs.Root.{IsAtLeastZero, RootFits, root_at, root_conjugate, root_sum}
+use Rattle.cqp_ring.specs.Root.{root_total, zero_root}
 use Rattle.cqp_choose.specs.Odds.{IsLawfulOdd, IsFair, IsLawful}
 use Rattle.cqp_choose.specs.Small.{IsSmall}
 

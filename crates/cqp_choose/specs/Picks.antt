@@ -14,7 +14,9 @@ seed_index seed turn odds = turn_word seed turn % length odds
 
 -- the word, as a share of 2^32, of the total is less than the sum
 abbrev pub IsShareLess : ℕ → Root → Root → Type 0
-IsShareLess word total sum = IsLess (root_product (whole_root (pos word)) total) (root_product (whole_root (pos (2 ^ 32))) sum)
+IsShareLess word total sum =
+    IsLess (root_product (whole_root (pos word)) total)
+    (root_product (whole_root (pos (2 ^ 32))) sum)
 
 -- the word's share of all odds is less than the odds up to the place i
 abbrev pub IsReached : ℕ → List Root → ℕ → Type 0

@@ -21,7 +21,8 @@ pub fn born_laws()
     ensures one { (word : ℕ) (odds : List Root) (i j : ℕ)
         → IsBornIndex word odds i → IsBornIndex word odds j → i ≡ j }
     ensures alike { (word : ℕ) (xs ys : List Root) (i : ℕ)
-        → IsFair xs → IsFair ys → IsProportional xs ys → IsBornIndex word xs i → IsBornIndex word ys i }
+        → IsFair xs → IsFair ys → IsProportional xs ys
+        → IsBornIndex word xs i → IsBornIndex word ys i }
 {
     ring_laws();
     list_laws();

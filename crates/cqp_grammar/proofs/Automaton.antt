@@ -1,25 +1,40 @@
 -- The machine reads what the grammar reads.
-use Rattle.std.proofs.Common.{ℕ, zero, suc, List, [], ◌∷◌, ◌++◌, ◌≡◌, inl, inr, refl, ◌∙◌, ap, subst, append_assoc, append-nil, Some}
+use Rattle.std.proofs.Common.{ℕ, zero, suc, List, [], ◌∷◌, ◌++◌, ◌≡◌, inl, inr, refl, ◌∙◌, ap}
+use Rattle.std.proofs.Common.{subst, append_assoc, append-nil, Some}
 use Rattle.cqp_syntax.specs.TypeTrees.{no_types, op_type, chan_type}
 use Rattle.cqp_grammar.specs.declared.token.Token.{Token}
 use Rattle.cqp_grammar.specs.declared.token.Token.TheVariants.{Name, Number, Key, Sign}
 use Rattle.cqp_grammar.specs.declared.token.Reserved.TheVariants as key
 use Rattle.cqp_grammar.specs.declared.token.Symbol.TheVariants as sign
-use Rattle.cqp_grammar.specs.Trees.{Occurrence, name, measure, ExprTrees, no_exprs, expr_and, call, DefinitionTree, ProgramTree}
-use Rattle.cqp_grammar.specs.Grammar.{IsItems, IsParams, IsProcess, IsPrefix, no_defs, def_none, def_some}
-use Rattle.cqp_grammar.specs.Stacks.{PrefixStack, in_process, in_qbit, in_output, in_else, in_group, in_right, in_body, in_main, in_sig, ItemStack, in_left}
-use Rattle.cqp_grammar.specs.Stacks.{in_right_side, in_list, in_expr, in_item, in_operator, in_first, in_heading, in_params, in_annotation, in_param, in_types}
-use Rattle.cqp_grammar.specs.Places.{Config, definitions, def_name, def_open, def_equals, params_first, param_wanted, param_colon, type_wanted, op_open}
-use Rattle.cqp_grammar.specs.Places.{op_number, op_close, chan_open, chan_first, after_type, prefix_wanted, opened, new_name, new_colon, qbit_name, qbit_close}
-use Rattle.cqp_grammar.specs.Places.{named, input_open, output_open, output_first, call_first, call_wanted, call_after, dot_wanted, else_wanted, expr_wanted}
-use Rattle.cqp_grammar.specs.Places.{expr_named, applied_wanted, applied_after, item_wanted, measured_wanted, measured_after, measured_comma, atom_wanted}
+use Rattle.cqp_grammar.specs.Trees.{Occurrence, name, measure, ExprTrees, no_exprs, expr_and, call}
+use Rattle.cqp_grammar.specs.Trees.{DefinitionTree, ProgramTree}
+use Rattle.cqp_grammar.specs.Grammar.{IsItems, IsParams, IsProcess, IsPrefix, no_defs, def_none}
+use Rattle.cqp_grammar.specs.Grammar.{def_some}
+use Rattle.cqp_grammar.specs.Stacks.{PrefixStack, in_process, in_qbit, in_output, in_else, in_group}
+use Rattle.cqp_grammar.specs.Stacks.{in_right, in_body, in_main, in_sig, ItemStack, in_left}
+use Rattle.cqp_grammar.specs.Stacks.{in_right_side, in_list, in_expr, in_item, in_operator}
+use Rattle.cqp_grammar.specs.Stacks.{in_first, in_heading, in_params, in_annotation, in_param}
+use Rattle.cqp_grammar.specs.Stacks.{in_types}
+use Rattle.cqp_grammar.specs.Places.{Config, definitions, def_name, def_open, def_equals}
+use Rattle.cqp_grammar.specs.Places.{params_first, param_wanted, param_colon, type_wanted, op_open}
+use Rattle.cqp_grammar.specs.Places.{op_number, op_close, chan_open, chan_first, after_type}
+use Rattle.cqp_grammar.specs.Places.{prefix_wanted, opened, new_name, new_colon, qbit_name}
+use Rattle.cqp_grammar.specs.Places.{qbit_close}
+use Rattle.cqp_grammar.specs.Places.{named, input_open, output_open, output_first, call_first}
+use Rattle.cqp_grammar.specs.Places.{call_wanted, call_after, dot_wanted, else_wanted, expr_wanted}
+use Rattle.cqp_grammar.specs.Places.{expr_named, applied_wanted, applied_after, item_wanted}
+use Rattle.cqp_grammar.specs.Places.{measured_wanted, measured_after, measured_comma, atom_wanted}
 use Rattle.cqp_grammar.specs.Places.{sig_open, after_sum, after_prefix}
 use Rattle.cqp_grammar.specs.Moves.{exprs_append, expr_last, measure_goes_on, next}
 use Rattle.cqp_grammar.specs.Trees.{definition, occurrence}
-use Rattle.cqp_grammar.specs.Completes.{Reads, ProgramEnds, PrefixEnds, ListEnds, NamesEnd, AppliedEnds, CallEnds, Headed, MeasuredComma, MeasuredEnds, ItemReads}
+use Rattle.cqp_grammar.specs.Completes.{Reads, ProgramEnds, PrefixEnds, ListEnds, NamesEnd}
+use Rattle.cqp_grammar.specs.Completes.{AppliedEnds, CallEnds, Headed, MeasuredComma, MeasuredEnds}
+use Rattle.cqp_grammar.specs.Completes.{ItemReads}
 use Rattle.cqp_grammar.specs.Completes.{Completes}
-use Rattle.cqp_grammar.proofs.Ends.{prefix_undone, wanted_process, wanted_names, wanted_params, wanted_types, wanted_items, exprs_assoc}
-use Rattle.cqp_grammar.proofs.StepsBack.{arrives, prefix_back, process_back, atom_back, wanted_sum, item_back, expr_back, item_read_back, after_sum_back}
+use Rattle.cqp_grammar.proofs.Ends.{prefix_undone, wanted_process, wanted_names, wanted_params}
+use Rattle.cqp_grammar.proofs.Ends.{wanted_types, wanted_items, exprs_assoc}
+use Rattle.cqp_grammar.proofs.StepsBack.{arrives, prefix_back, process_back, atom_back, wanted_sum}
+use Rattle.cqp_grammar.proofs.StepsBack.{item_back, expr_back, item_read_back, after_sum_back}
 use Rattle.cqp_grammar.proofs.StepsBack.{params_read_back, type_back, type_read_back}
 
 -- a definition, or the main process

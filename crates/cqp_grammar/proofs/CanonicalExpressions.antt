@@ -2,16 +2,28 @@
 use Rattle.std.proofs.Common.{ℕ, List, [], ◌∷◌, ◌≡◌, refl, ap, ap₂, subst, map}
 use Rattle.cqp_syntax.specs.declared.op.Op.{Op}
 use Rattle.cqp_syntax.specs.declared.op.Op.TheVariants as op
-use Rattle.cqp_syntax.specs.TypeTrees.{TypeTree, int_type, unit_type, qbit_type, op_type, chan_type, TypeTrees, no_types, type_and}
+use Rattle.cqp_syntax.specs.TypeTrees.{TypeTree, int_type, unit_type, qbit_type, op_type, chan_type}
+use Rattle.cqp_syntax.specs.TypeTrees.{TypeTrees, no_types, type_and}
 use Rattle.cqp_grammar.specs.declared.token.Token.{Token}
 use Rattle.cqp_grammar.specs.declared.token.Token.TheVariants.{Key, Sign}
 use Rattle.cqp_grammar.specs.declared.token.Reserved.TheVariants as key
 use Rattle.cqp_grammar.specs.declared.token.Symbol.TheVariants as sign
-use Rattle.cqp_grammar.specs.Trees.{Occurrence, Parameter, ExprTree, number, unit, name, gate, sig, add, apply, measure, ExprTrees, no_exprs, expr_and}
-use Rattle.cqp_grammar.specs.Grammar.{gate_key, StartsWithMeasure, IsNames, one_name, more_names, IsType, int, unit_, qbit_, op_, chan_none, chan_some, IsTypes, one_type, more_types, IsParams, one_param, more_params, IsExpr, applied, plain, IsItem, measured, summed, IsSum, one_atom, more_atoms, IsAtom, a_number, a_unit, a_name, a_gate, a_sig, a_group, IsItems, one_item, more_items}
-use Rattle.cqp_grammar.specs.Canonical.{in_parentheses, names_tokens, type_tokens, types_tokens, params_tokens, Place, enclosed, last, inner, behind_plus, expr_tokens, expr_at, items_tokens}
-use Rattle.cqp_grammar.specs.CanonicalTrees.{IsPrintableType, ArePrintableTypes, ArePrintableParams, IsPrintableExpr, ArePrintableExprs, unplaced_name, unplaced_param, unplaced_expr, unplaced_exprs}
-use Rattle.cqp_grammar.proofs.CanonicalKinds.{Leads, ends, goes, like_name, like_number, like_key, like_sign, leads_sign}
+use Rattle.cqp_grammar.specs.Trees.{Occurrence, Parameter, ExprTree, number, unit, name, gate, sig}
+use Rattle.cqp_grammar.specs.Trees.{add, apply, measure, ExprTrees, no_exprs, expr_and}
+use Rattle.cqp_grammar.specs.Grammar.{gate_key, StartsWithMeasure, IsNames, one_name, more_names}
+use Rattle.cqp_grammar.specs.Grammar.{IsType, int, unit_, qbit_, op_, chan_none, chan_some, IsTypes}
+use Rattle.cqp_grammar.specs.Grammar.{one_type, more_types, IsParams, one_param, more_params}
+use Rattle.cqp_grammar.specs.Grammar.{IsExpr, applied, plain, IsItem, measured, summed, IsSum}
+use Rattle.cqp_grammar.specs.Grammar.{one_atom, more_atoms, IsAtom, a_number, a_unit, a_name}
+use Rattle.cqp_grammar.specs.Grammar.{a_gate, a_sig, a_group, IsItems, one_item, more_items}
+use Rattle.cqp_grammar.specs.Canonical.{in_parentheses, names_tokens, type_tokens, types_tokens}
+use Rattle.cqp_grammar.specs.Canonical.{params_tokens, Place, enclosed, last, inner, behind_plus}
+use Rattle.cqp_grammar.specs.Canonical.{expr_tokens, expr_at, items_tokens}
+use Rattle.cqp_grammar.specs.CanonicalTrees.{IsPrintableType, ArePrintableTypes, ArePrintableParams}
+use Rattle.cqp_grammar.specs.CanonicalTrees.{IsPrintableExpr, ArePrintableExprs, unplaced_name}
+use Rattle.cqp_grammar.specs.CanonicalTrees.{unplaced_param, unplaced_expr, unplaced_exprs}
+use Rattle.cqp_grammar.proofs.CanonicalKinds.{Leads, ends, goes, like_name, like_number, like_key}
+use Rattle.cqp_grammar.proofs.CanonicalKinds.{like_sign, leads_sign}
 
 -- some names
 pub names_derive : (x : Occurrence) (xs : List Occurrence) {ts rest : List Token} → Leads (names_tokens (x ∷ xs)) ts rest

@@ -1,12 +1,24 @@
 -- Each canonical token of a printable tree has a spelling.
-use Rattle.std.proofs.Common.{ℕ, ◌<◌, ◌^◌, List, [], ◌∷◌, ◌++◌, ◌≡◌, ◌⊎◌, inl, inr, Bool, true, false, arith}
+use Rattle.std.proofs.Common.{ℕ, ◌<◌, ◌^◌, List, [], ◌∷◌, ◌++◌, ◌≡◌, ◌⊎◌, inl, inr, Bool, true}
+use Rattle.std.proofs.Common.{false, arith}
 use Rattle.std.specs.Prelude.{if◌then◌else◌}
-use Rattle.cqp_syntax.specs.TypeTrees.{TypeTree, int_type, unit_type, qbit_type, op_type, chan_type, TypeTrees, no_types, type_and}
+use Rattle.cqp_syntax.specs.TypeTrees.{TypeTree, int_type, unit_type, qbit_type, op_type, chan_type}
+use Rattle.cqp_syntax.specs.TypeTrees.{TypeTrees, no_types, type_and}
 use Rattle.cqp_grammar.specs.declared.token.Token.{Token}
 use Rattle.cqp_grammar.specs.declared.token.Token.TheVariants.{Name}
-use Rattle.cqp_grammar.specs.Trees.{Occurrence, Parameter, ExprTree, number, unit, name, gate, sig, add, apply, measure, ExprTrees, no_exprs, expr_and, ProcessTree, nil, par, new, qbit, act, input, output, branch, call, DefinitionTree, ProgramTree}
-use Rattle.cqp_grammar.specs.Canonical.{in_parentheses, names_tokens, type_tokens, types_tokens, params_tokens, Place, enclosed, last, inner, behind_plus, has_parentheses, expr_tokens, expr_at, placed, items_tokens, as_body, process_tokens, definition_tokens, definitions_tokens, program_tokens}
-use Rattle.cqp_grammar.specs.CanonicalTrees.{AreNames, AreSomeNames, IsPrintableType, ArePrintableTypes, ArePrintableParams, IsPrintableExpr, ArePrintableExprs, IsPrintableProcess, ArePrintableDefinitions, IsPrintable}
+use Rattle.cqp_grammar.specs.Trees.{Occurrence, Parameter, ExprTree, number, unit, name, gate, sig}
+use Rattle.cqp_grammar.specs.Trees.{add, apply, measure, ExprTrees, no_exprs, expr_and, ProcessTree}
+use Rattle.cqp_grammar.specs.Trees.{nil, par, new, qbit, act, input, output, branch, call}
+use Rattle.cqp_grammar.specs.Trees.{DefinitionTree, ProgramTree}
+use Rattle.cqp_grammar.specs.Canonical.{in_parentheses, names_tokens, type_tokens, types_tokens}
+use Rattle.cqp_grammar.specs.Canonical.{params_tokens, Place, enclosed, last, inner, behind_plus}
+use Rattle.cqp_grammar.specs.Canonical.{has_parentheses, expr_tokens, expr_at, placed, items_tokens}
+use Rattle.cqp_grammar.specs.Canonical.{as_body, process_tokens, definition_tokens}
+use Rattle.cqp_grammar.specs.Canonical.{definitions_tokens, program_tokens}
+use Rattle.cqp_grammar.specs.CanonicalTrees.{AreNames, AreSomeNames, IsPrintableType}
+use Rattle.cqp_grammar.specs.CanonicalTrees.{ArePrintableTypes, ArePrintableParams, IsPrintableExpr}
+use Rattle.cqp_grammar.specs.CanonicalTrees.{ArePrintableExprs, IsPrintableProcess}
+use Rattle.cqp_grammar.specs.CanonicalTrees.{ArePrintableDefinitions, IsPrintable}
 use Rattle.cqp_grammar.proofs.CanonicalLexes.{IsSpelled, AreSpelled}
 
 -- spelled in a row

@@ -6,16 +6,23 @@ use Rattle.cqp_grammar.specs.declared.token.Token.{Token}
 use Rattle.cqp_grammar.specs.declared.token.Token.TheVariants.{Name, Key, Sign, End}
 use Rattle.cqp_grammar.specs.declared.token.Reserved.TheVariants as key
 use Rattle.cqp_grammar.specs.declared.token.Symbol.TheVariants as sign
-use Rattle.cqp_grammar.specs.Trees.{ExprTree, number, unit, name, gate, ProcessTree, nil, par, ProgramTree}
-use Rattle.cqp_grammar.specs.Grammar.{gate_key, one_name, more_names, IsExpr, applied, plain, measured, summed, IsSum, IsAtom, a_number, a_unit, a_name, a_gate}
-use Rattle.cqp_grammar.specs.Grammar.{a_sig, a_group, IsPrefix, zero_, group, new_, qbit_, act_, input_none, input_some, output_none, output_some, call_none}
+use Rattle.cqp_grammar.specs.Trees.{ExprTree, number, unit, name, gate, ProcessTree, nil, par}
+use Rattle.cqp_grammar.specs.Trees.{ProgramTree}
+use Rattle.cqp_grammar.specs.Grammar.{gate_key, one_name, more_names, IsExpr, applied, plain}
+use Rattle.cqp_grammar.specs.Grammar.{measured, summed, IsSum, IsAtom, a_number, a_unit, a_name}
+use Rattle.cqp_grammar.specs.Grammar.{a_gate}
+use Rattle.cqp_grammar.specs.Grammar.{a_sig, a_group, IsPrefix, zero_, group, new_, qbit_, act_}
+use Rattle.cqp_grammar.specs.Grammar.{input_none, input_some, output_none, output_some, call_none}
 use Rattle.cqp_grammar.specs.Grammar.{call_some, if_}
-use Rattle.cqp_grammar.specs.Stacks.{PrefixStack, in_process, ProcessStack, in_group, in_right, in_body, in_main, ExprStack, ItemStack, in_left, in_right_side}
+use Rattle.cqp_grammar.specs.Stacks.{PrefixStack, in_process, ProcessStack, in_group, in_right}
+use Rattle.cqp_grammar.specs.Stacks.{in_body, in_main, ExprStack, ItemStack, in_left, in_right_side}
 use Rattle.cqp_grammar.specs.Stacks.{in_list, in_expr, SumStack, in_item, AtomStack, in_first}
 use Rattle.cqp_grammar.specs.Places.{Config, expr_named, after_sum, after_prefix, finished}
-use Rattle.cqp_grammar.specs.Moves.{process_read, atom_read, atom_start, item_start, expr_start, prefix_start, next}
+use Rattle.cqp_grammar.specs.Moves.{process_read, atom_read, atom_start, item_start, expr_start}
+use Rattle.cqp_grammar.specs.Moves.{prefix_start, next}
 use Rattle.cqp_grammar.specs.Trees.{occurrence}
-use Rattle.cqp_grammar.specs.Completes.{PrefixEnds, ProcessEnds, ExprEnds, ItemEnds, SumEnds, AtomEnds, ItemReads, Completes}
+use Rattle.cqp_grammar.specs.Completes.{PrefixEnds, ProcessEnds, ExprEnds, ItemEnds, SumEnds}
+use Rattle.cqp_grammar.specs.Completes.{AtomEnds, ItemReads, Completes}
 use Rattle.cqp_grammar.proofs.Ends.{sign_first, prefix_done, atom_done, process_wants, sum_split}
 
 -- the step is taken, and what follows completes

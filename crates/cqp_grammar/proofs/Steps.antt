@@ -1,30 +1,43 @@
 -- Each token that can come next is a step of the machine.
-use Rattle.std.proofs.Common.{ℕ, List, [], ◌∷◌, ◌++◌, ◌≡◌, inl, inr, refl, sym, ◌∙◌, ap, subst, append_assoc, append-nil, Some}
+use Rattle.std.proofs.Common.{ℕ, List, [], ◌∷◌, ◌++◌, ◌≡◌, inl, inr, refl, sym, ◌∙◌, ap, subst}
+use Rattle.std.proofs.Common.{append_assoc, append-nil, Some}
 use Rattle.cqp_syntax.specs.TypeTrees.{no_types}
 use Rattle.cqp_grammar.specs.declared.token.Token.{Token}
 use Rattle.cqp_grammar.specs.declared.token.Token.TheVariants.{Name, Number, Key, Sign}
 use Rattle.cqp_grammar.specs.declared.token.Reserved.TheVariants as key
 use Rattle.cqp_grammar.specs.declared.token.Symbol.TheVariants as sign
-use Rattle.cqp_grammar.specs.Trees.{Occurrence, name, sig, measure, ExprTrees, no_exprs, call, DefinitionTree, ProgramTree}
+use Rattle.cqp_grammar.specs.Trees.{Occurrence, name, sig, measure, ExprTrees, no_exprs, call}
+use Rattle.cqp_grammar.specs.Trees.{DefinitionTree, ProgramTree}
 use Rattle.cqp_grammar.specs.Grammar.{StartsWithName, IsNames, IsDefs, IsProcess, no_defs, def_none}
 use Rattle.cqp_grammar.specs.Grammar.{def_some}
-use Rattle.cqp_grammar.specs.Stacks.{PrefixStack, in_process, in_group, in_body, in_main, ExprStack, in_braces, in_sig, in_parens, ItemStack, in_left}
-use Rattle.cqp_grammar.specs.Stacks.{in_right_side, in_list, in_expr, in_item, in_heading, TypeStack}
+use Rattle.cqp_grammar.specs.Stacks.{PrefixStack, in_process, in_group, in_body, in_main, ExprStack}
+use Rattle.cqp_grammar.specs.Stacks.{in_braces, in_sig, in_parens, ItemStack, in_left}
+use Rattle.cqp_grammar.specs.Stacks.{in_right_side, in_list, in_expr, in_item, in_heading}
+use Rattle.cqp_grammar.specs.Stacks.{TypeStack}
 use Rattle.cqp_grammar.specs.Stacks.{in_types}
-use Rattle.cqp_grammar.specs.Places.{Config, definitions, def_name, def_open, def_equals, params_first, param_wanted, param_colon, type_wanted, op_open}
-use Rattle.cqp_grammar.specs.Places.{op_number, op_close, chan_open, chan_first, after_type, prefix_wanted, opened, new_name, new_colon, qbit_name, qbit_close}
-use Rattle.cqp_grammar.specs.Places.{named, input_open, output_open, output_first, call_first, call_wanted, call_after, dot_wanted, else_wanted, expr_wanted}
-use Rattle.cqp_grammar.specs.Places.{expr_named, applied_wanted, applied_after, item_wanted, measured_wanted, measured_after, measured_comma, atom_wanted}
+use Rattle.cqp_grammar.specs.Places.{Config, definitions, def_name, def_open, def_equals}
+use Rattle.cqp_grammar.specs.Places.{params_first, param_wanted, param_colon, type_wanted, op_open}
+use Rattle.cqp_grammar.specs.Places.{op_number, op_close, chan_open, chan_first, after_type}
+use Rattle.cqp_grammar.specs.Places.{prefix_wanted, opened, new_name, new_colon, qbit_name}
+use Rattle.cqp_grammar.specs.Places.{qbit_close}
+use Rattle.cqp_grammar.specs.Places.{named, input_open, output_open, output_first, call_first}
+use Rattle.cqp_grammar.specs.Places.{call_wanted, call_after, dot_wanted, else_wanted, expr_wanted}
+use Rattle.cqp_grammar.specs.Places.{expr_named, applied_wanted, applied_after, item_wanted}
+use Rattle.cqp_grammar.specs.Places.{measured_wanted, measured_after, measured_comma, atom_wanted}
 use Rattle.cqp_grammar.specs.Places.{sig_open, after_sum, after_prefix, finished}
 use Rattle.cqp_grammar.specs.Moves.{expr_last, type_start}
 use Rattle.cqp_grammar.specs.Trees.{definition, occurrence}
 use Rattle.cqp_grammar.specs.Moves.{item_start, prefix_start, measure_goes_on, next}
 use Rattle.cqp_grammar.specs.Completes.{ThenSign, Reads, ProgramEnds, ListEnds, NamesEnd}
-use Rattle.cqp_grammar.specs.Completes.{ProgramEnd, AppliedEnds, CallEnds, ParamsFirst, NewColon, QbitClose, MeasuredEnds, Completes}
-use Rattle.cqp_grammar.proofs.Ends.{sign_first, key_first, name_first, prefix_done, atom_done, process_wants, sum_split, exprs_assoc, names_wants}
+use Rattle.cqp_grammar.specs.Completes.{ProgramEnd, AppliedEnds, CallEnds, ParamsFirst, NewColon}
+use Rattle.cqp_grammar.specs.Completes.{QbitClose, MeasuredEnds, Completes}
+use Rattle.cqp_grammar.proofs.Ends.{sign_first, key_first, name_first, prefix_done, atom_done}
+use Rattle.cqp_grammar.proofs.Ends.{process_wants, sum_split, exprs_assoc, names_wants}
 use Rattle.cqp_grammar.proofs.Ends.{params_wants, types_wants, items_wants}
-use Rattle.cqp_grammar.proofs.Starts.{Goes, prefix_steps, after_prefix_steps, atom_steps, item_steps, expr_steps}
-use Rattle.cqp_grammar.proofs.Rests.{after_sum_steps, params_read_steps, other_than_name, type_steps, type_read_steps}
+use Rattle.cqp_grammar.proofs.Starts.{Goes, prefix_steps, after_prefix_steps, atom_steps}
+use Rattle.cqp_grammar.proofs.Starts.{item_steps, expr_steps}
+use Rattle.cqp_grammar.proofs.Rests.{after_sum_steps, params_read_steps, other_than_name}
+use Rattle.cqp_grammar.proofs.Rests.{type_steps, type_read_steps}
 
 -- at the start of a definition or of the main process
 other_than_def : (ds : List DefinitionTree) (tok : Token) (d : Config) → prefix_start (in_process (in_main ds)) tok ≡ Some d
@@ -32,12 +45,14 @@ other_than_def : (ds : List DefinitionTree) (tok : Token) (d : Config) → prefi
 other_than_def ds (Key key.Def at) d same = absurd (cc same)
 other_than_def ds tok d same = same
 
-one_more : (t : ProgramTree) (ds : List DefinitionTree) (d : DefinitionTree) (ts : List Token) → Reads IsDefs (λ es. Reads IsProcess (ProgramEnd t (ds ++ d ∷ es))) ts
+one_more : (t : ProgramTree) (ds : List DefinitionTree) (d : DefinitionTree) (ts : List Token)
+    → Reads IsDefs (λ es. Reads IsProcess (ProgramEnd t (ds ++ d ∷ es))) ts
     → ProgramEnds t (ds ++ d ∷ []) ts
 one_more t ds d ts (es, more, h, (p, rest, main, (e, end, is))) =
     (es, more, h, (p, rest, main, (e, end, is ∙ ap (λ l. record { defs = l; main = p }) (sym (append_assoc ds (d ∷ []) es)))))
 
-definitions_steps : (t : ProgramTree) (ds : List DefinitionTree) (tok : Token) (ts : List Token) → ProgramEnds t ds (tok ∷ ts) → Goes (next (definitions ds) tok) ts t
+definitions_steps : (t : ProgramTree) (ds : List DefinitionTree) (tok : Token) (ts : List Token)
+    → ProgramEnds t ds (tok ∷ ts) → Goes (next (definitions ds) tok) ts t
 definitions_steps t ds tok ts (es, more, no_defs, (p, rest, h, (at, end, is))) =
     let (q, after, main, ends) = process_wants t (in_main ds) h (at, end, rw append-nil at is) in
     let (d, step, c) = prefix_steps t (in_process (in_main ds)) main ends in

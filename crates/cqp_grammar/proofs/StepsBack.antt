@@ -1,29 +1,48 @@
 -- Each step of the machine can be taken: what completes the reading after it completes it before, with the token first.
-use Rattle.std.proofs.Common.{ℕ, zero, List, [], ◌∷◌, ◌++◌, ◌≡◌, inl, inr, refl, sym, ◌∙◌, ap, subst, append_assoc, Some}
+use Rattle.std.proofs.Common.{ℕ, zero, List, [], ◌∷◌, ◌++◌, ◌≡◌, inl, inr, refl, sym, ◌∙◌, ap}
+use Rattle.std.proofs.Common.{subst, append_assoc, Some}
 use Rattle.cqp_syntax.specs.declared.op.Op.{Op}
 use Rattle.cqp_syntax.specs.declared.op.Op.TheVariants as op
-use Rattle.cqp_syntax.specs.TypeTrees.{TypeTree, no_types, int_type, unit_type, qbit_type, op_type, chan_type}
+use Rattle.cqp_syntax.specs.TypeTrees.{TypeTree, no_types, int_type, unit_type, qbit_type, op_type}
+use Rattle.cqp_syntax.specs.TypeTrees.{chan_type}
 use Rattle.cqp_grammar.specs.declared.token.Token.{Token}
 use Rattle.cqp_grammar.specs.declared.token.Token.TheVariants.{Name, Number, Key, Sign, End}
 use Rattle.cqp_grammar.specs.declared.token.Reserved.TheVariants as key
 use Rattle.cqp_grammar.specs.declared.token.Symbol.TheVariants as sign
-use Rattle.cqp_grammar.specs.Trees.{Parameter, ExprTree, number, unit, name, gate, sig, apply, measure, no_exprs, ProcessTree, nil, par, new, qbit, act, input}
+use Rattle.cqp_grammar.specs.Trees.{Parameter, ExprTree, number, unit, name, gate, sig, apply}
+use Rattle.cqp_grammar.specs.Trees.{measure, no_exprs, ProcessTree, nil, par, new, qbit, act, input}
 use Rattle.cqp_grammar.specs.Trees.{output, branch, call, ProgramTree}
-use Rattle.cqp_grammar.specs.Grammar.{gate_key, first_at, StartsWithMeasure, IsNames, IsType, IsTypes, IsItems, one_atom, int, unit_, qbit_ as type_qbit, op_}
-use Rattle.cqp_grammar.specs.Grammar.{chan_none, chan_some, IsParams, IsExpr, applied, plain, IsItem, measured, summed, IsSum, IsAtom, a_number, a_unit, a_name}
-use Rattle.cqp_grammar.specs.Grammar.{a_gate, a_sig, a_group, IsProcess, IsPrefix, zero_, group, new_, qbit_, act_, input_none, input_some, output_none}
+use Rattle.cqp_grammar.specs.Grammar.{gate_key, first_at, StartsWithMeasure, IsNames, IsType}
+use Rattle.cqp_grammar.specs.Grammar.{IsTypes, IsItems, one_atom, int, unit_, qbit_ as type_qbit}
+use Rattle.cqp_grammar.specs.Grammar.{op_}
+use Rattle.cqp_grammar.specs.Grammar.{chan_none, chan_some, IsParams, IsExpr, applied, plain}
+use Rattle.cqp_grammar.specs.Grammar.{IsItem, measured, summed, IsSum, IsAtom, a_number, a_unit}
+use Rattle.cqp_grammar.specs.Grammar.{a_name}
+use Rattle.cqp_grammar.specs.Grammar.{a_gate, a_sig, a_group, IsProcess, IsPrefix, zero_, group}
+use Rattle.cqp_grammar.specs.Grammar.{new_, qbit_, act_, input_none, input_some, output_none}
 use Rattle.cqp_grammar.specs.Grammar.{output_some, call_none, call_some, if_}
-use Rattle.cqp_grammar.specs.Stacks.{PrefixStack, in_new, in_act, in_input, in_output, in_then, ProcessStack, in_group, in_right, in_body, in_main, ExprStack}
-use Rattle.cqp_grammar.specs.Stacks.{in_braces, in_sig, in_parens, ItemStack, in_left, in_right_side, in_list, in_expr, SumStack, in_item, in_operator, AtomStack}
-use Rattle.cqp_grammar.specs.Stacks.{in_first, in_plus, ParamsStack, in_heading, in_params, TypeStack, in_annotation, in_param, in_types}
-use Rattle.cqp_grammar.specs.Places.{Config, definitions, def_equals, param_wanted, type_wanted, op_open, chan_open, after_type, prefix_wanted, opened, named}
-use Rattle.cqp_grammar.specs.Places.{dot_wanted, expr_wanted, expr_named, item_wanted, measured_wanted, atom_wanted, sig_open, after_sum, finished}
-use Rattle.cqp_grammar.specs.Moves.{type_last, expr_last, process_read, atom_read, expr_read, item_read, sum_read, params_read}
+use Rattle.cqp_grammar.specs.Stacks.{PrefixStack, in_new, in_act, in_input, in_output, in_then}
+use Rattle.cqp_grammar.specs.Stacks.{ProcessStack, in_group, in_right, in_body, in_main, ExprStack}
+use Rattle.cqp_grammar.specs.Stacks.{in_braces, in_sig, in_parens, ItemStack, in_left}
+use Rattle.cqp_grammar.specs.Stacks.{in_right_side, in_list, in_expr, SumStack, in_item}
+use Rattle.cqp_grammar.specs.Stacks.{in_operator, AtomStack}
+use Rattle.cqp_grammar.specs.Stacks.{in_first, in_plus, ParamsStack, in_heading, in_params}
+use Rattle.cqp_grammar.specs.Stacks.{TypeStack, in_annotation, in_param, in_types}
+use Rattle.cqp_grammar.specs.Places.{Config, definitions, def_equals, param_wanted, type_wanted}
+use Rattle.cqp_grammar.specs.Places.{op_open, chan_open, after_type, prefix_wanted, opened, named}
+use Rattle.cqp_grammar.specs.Places.{dot_wanted, expr_wanted, expr_named, item_wanted}
+use Rattle.cqp_grammar.specs.Places.{measured_wanted, atom_wanted, sig_open, after_sum, finished}
+use Rattle.cqp_grammar.specs.Moves.{type_last, expr_last, process_read, atom_read, expr_read}
+use Rattle.cqp_grammar.specs.Moves.{item_read, sum_read, params_read}
 use Rattle.cqp_grammar.specs.Trees.{parameter, definition, occurrence}
-use Rattle.cqp_grammar.specs.Moves.{type_read, type_start, atom_start, item_start, expr_start, prefix_start, next}
-use Rattle.cqp_grammar.specs.Completes.{ThenSign, Reads, stops, adds, PrefixEnds, ProcessEnds, ListEnds, Opened, Named, ExprEnds, ItemEnds, SumEnds, AtomEnds}
+use Rattle.cqp_grammar.specs.Moves.{type_read, type_start, atom_start, item_start, expr_start}
+use Rattle.cqp_grammar.specs.Moves.{prefix_start, next}
+use Rattle.cqp_grammar.specs.Completes.{ThenSign, Reads, stops, adds, PrefixEnds, ProcessEnds}
+use Rattle.cqp_grammar.specs.Completes.{ListEnds, Opened, Named, ExprEnds, ItemEnds, SumEnds}
+use Rattle.cqp_grammar.specs.Completes.{AtomEnds}
 use Rattle.cqp_grammar.specs.Completes.{ParamsEnds, TypeEnds, AppliedEnds, ItemReads, Completes}
-use Rattle.cqp_grammar.proofs.Ends.{prefix_undone, atom_undone, sum_joins, types_assoc, exprs_assoc, wanted_names, wanted_types, wanted_items}
+use Rattle.cqp_grammar.proofs.Ends.{prefix_undone, atom_undone, sum_joins, types_assoc, exprs_assoc}
+use Rattle.cqp_grammar.proofs.Ends.{wanted_names, wanted_types, wanted_items}
 
 -- what completes the place that a step gives
 pub arrives : (t : ProgramTree) (ts : List Token) (c d : Config) → Some c ≡ Some d → Completes d ts t → Completes c ts t

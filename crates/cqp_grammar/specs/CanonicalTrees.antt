@@ -4,7 +4,10 @@ use Rattle.cqp_syntax.specs.TypeTrees.{TypeTree, op_type, chan_type, TypeTrees, 
 use Rattle.cqp_grammar.specs.declared.token.Token.{Token}
 use Rattle.cqp_grammar.specs.declared.token.Token.TheVariants.{Name, Number, Key, Sign, Bad, End}
 use Rattle.cqp_grammar.specs.Spelling.{IsName}
-use Rattle.cqp_grammar.specs.Trees.{Occurrence, Parameter, ExprTree, number, unit, name, gate, sig, add, apply, measure, ExprTrees, no_exprs, expr_and, ProcessTree, nil, par, new, qbit, act, input, output, branch, call, DefinitionTree, ProgramTree}
+use Rattle.cqp_grammar.specs.Trees.{Occurrence, Parameter, ExprTree, number, unit, name, gate, sig}
+use Rattle.cqp_grammar.specs.Trees.{add, apply, measure, ExprTrees, no_exprs, expr_and, ProcessTree}
+use Rattle.cqp_grammar.specs.Trees.{nil, par, new, qbit, act, input, output, branch, call}
+use Rattle.cqp_grammar.specs.Trees.{DefinitionTree, ProgramTree}
 
 -- each of the words is a name
 abbrev pub AreNames : List Occurrence → Type 0

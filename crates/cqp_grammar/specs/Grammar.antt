@@ -1,5 +1,5 @@
--- The grammar, rule by rule. 'IsX tokens tree rest' says that the tokens begin with an X that stands
--- for the tree, and that rest follows it.
+-- The grammar, rule by rule. 'IsX tokens tree rest' says that the tokens begin with an X that
+-- stands for the tree, and that rest follows it.
 use Rattle.std.specs.Prelude.{ℕ, List, [], ◌∷◌, ◌≡◌, ◌⊎◌}
 use Rattle.cqp_syntax.specs.declared.op.Op.{Op}
 use Rattle.cqp_syntax.specs.declared.op.Op.TheVariants as op

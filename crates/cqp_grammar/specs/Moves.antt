@@ -17,7 +17,8 @@ use Rattle.cqp_grammar.specs.Stacks.{PrefixStack, in_process, in_new, in_qbit, i
 use Rattle.cqp_grammar.specs.Stacks.{in_output, in_then, in_else, ProcessStack, in_group, in_right}
 use Rattle.cqp_grammar.specs.Stacks.{in_body, in_main, ExprStack, in_braces, in_sig, in_parens}
 use Rattle.cqp_grammar.specs.Stacks.{ItemStack, in_left, in_right_side, in_list, in_expr, SumStack}
-use Rattle.cqp_grammar.specs.Stacks.{in_item, in_operator, AtomStack, in_first, in_plus, ParamsStack}
+use Rattle.cqp_grammar.specs.Stacks.{in_item, in_operator, AtomStack, in_first, in_plus}
+use Rattle.cqp_grammar.specs.Stacks.{ParamsStack}
 use Rattle.cqp_grammar.specs.Stacks.{in_heading, in_params, TypeStack, in_annotation, in_param}
 use Rattle.cqp_grammar.specs.Stacks.{in_types}
 use Rattle.cqp_grammar.specs.Places.{Config, definitions, def_name, def_open, def_equals}

@@ -1,5 +1,6 @@
 -- A sink in memory, as contracts see it.
-use Rattle.std.specs.Prelude.{◌≡◌, ◌⊎◌, ℕ, ◌-◌, Contains, List, [], ◌++◌, take, length, min, Result, Ok, Err}
+use Rattle.std.specs.Prelude.{◌≡◌, ◌⊎◌, ℕ, ◌-◌, Contains, List, [], ◌++◌, take, length, min, Result}
+use Rattle.std.specs.Prelude.{Ok, Err}
 use Rattle.cqp_outside.specs.Calls.{Calls, no_calls, after_call, after_fault}
 use Rattle.cqp_outside.specs.declared.failed.Failed.{Failed}
 

@@ -49,7 +49,8 @@ impl From<NoMemory> for ReadEnd {
 pub fn read_all<S: Source>(alloc: Global, source: &mut S, limit: usize) -> Result<Bytes, ReadEnd>
     requires { limit < 2 ^ 31 }
     ensures read { IsRead limit (S.left source.old) (S.left source.new) result }
-    ensures fault { IsErrOf result ReadEnd.Fault → Rose (S.faults source.old) (S.faults source.new) }
+    ensures fault { IsErrOf result ReadEnd.Fault
+        → Rose (S.faults source.old) (S.faults source.new) }
     ensures later { S.faults source.old ≤ S.faults source.new }
 {
     let mut bytes = Bytes::new(alloc);

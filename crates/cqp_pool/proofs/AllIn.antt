@@ -1,9 +1,11 @@
 -- Each deque takes in the ways of all rows that lead to it.
-use Rattle.std.proofs.Common.{◌≡◌, ℕ, suc, ◌+◌, ◌<◌, List, [], ◌∷◌, ◌++◌, All, Vec, Global, length, refl, sym, ap, ◌∙◌, arith}
+use Rattle.std.proofs.Common.{◌≡◌, ℕ, suc, ◌+◌, ◌<◌, List, [], ◌∷◌, ◌++◌, All, Vec, Global, length}
+use Rattle.std.proofs.Common.{refl, sym, ap, ◌∙◌, arith}
 use Rattle.std.specs.List.{sum_by}
 use Rattle.std.proofs.lemmas.List.Sums.{sum_by-append}
 use Rattle.std.proofs.lemmas.List.Elements.{All-nil, All-cons, All-head, All-tail}
-use Rattle.cqp_pool.specs.Parts.{Reached, Owned, deques_of, deques_in, takes_in, zip_in, stolen, pushed_in, taken_in}
+use Rattle.cqp_pool.specs.Parts.{Reached, Owned, deques_of, deques_in, takes_in, zip_in, stolen}
+use Rattle.cqp_pool.specs.Parts.{pushed_in, taken_in}
 use Rattle.cqp_pool.specs.Apart.{Rows, all_in, stolen_in}
 use Rattle.cqp_pool.proofs.Zips.{same_length}
 

@@ -1,6 +1,7 @@
 -- The lanes of one pool are put in the order of their numbers.
 use Rattle.std.proofs.Common.{◌≡◌, ◌≢◌, ℕ, zero, suc, ◌+◌, ◌<◌, ◌==◌, if◌then◌else◌, List, [], ◌∷◌}
-use Rattle.std.proofs.Common.{Contains, IsPermutation, map, length, get_or, swap, refl, sym, ap, ◌∙◌, arith}
+use Rattle.std.proofs.Common.{Contains, IsPermutation, map, length, get_or, swap, refl, sym, ap}
+use Rattle.std.proofs.Common.{◌∙◌, arith}
 use Rattle.std.specs.List.{flat_map, sum_by, range_with_len, SwappedAt}
 use Rattle.std.proofs.lemmas.List.Sums.{sum_by-cons}
 use Rattle.std.proofs.lemmas.List.Sorted.{sum_by-IsPermutation, All-permutation}

@@ -1,5 +1,6 @@
 -- A walk over the owners of the deques, which changes each and makes a row.
-use Rattle.std.proofs.Common.{◌≡◌, ℕ, zero, suc, ◌+◌, ◌-◌, ◌<◌, ◌≤◌, List, [], ◌∷◌, ◌++◌, All, map, length, take, get_or, set, sym, refl, ap, ◌∙◌, arith}
+use Rattle.std.proofs.Common.{◌≡◌, ℕ, zero, suc, ◌+◌, ◌-◌, ◌<◌, ◌≤◌, List, [], ◌∷◌, ◌++◌, All, map}
+use Rattle.std.proofs.Common.{length, take, get_or, set, sym, refl, ap, ◌∙◌, arith}
 use Rattle.std.proofs.lemmas.List.{take_more, map-append}
 use Rattle.std.proofs.lemmas.List.Elements.{All-map}
 use Rattle.cqp_pool.specs.Parts.{Owned, lend, new_own, new_owns, new_reach, new_row, deques_in}

@@ -1,11 +1,13 @@
 -- A new pool's lanes, made from the last to the first.
 use Rattle.std.proofs.Common.{◌≡◌, ◌≢◌, ℕ, zero, suc, ◌+◌, ◌-◌, ◌<◌, ◌≤◌, List, []}
-use Rattle.std.proofs.Common.{◌∷◌, All, Some, length, take, get_or, slice_get, sym, refl, ap, ◌∙◌, arith}
+use Rattle.std.proofs.Common.{◌∷◌, All, Some, length, take, get_or, slice_get, sym, refl, ap, ◌∙◌}
+use Rattle.std.proofs.Common.{arith}
 use Rattle.std.specs.List.{range_with_len, sum_by}
 use Rattle.std.proofs.lemmas.Option.{slice_get-get_or}
 use Rattle.cqp_pool.specs.Tallies.{new_tally}
 use Rattle.cqp_pool.specs.Pools.{DequeId, PoolId, LaneState, IsWhole, numbers_of}
-use Rattle.cqp_pool.specs.Parts.{Owned, Reached, Entered, IsLane, new_own, new_owns, new_row, deques_of, stolen, queue_parts}
+use Rattle.cqp_pool.specs.Parts.{Owned, Reached, Entered, IsLane, new_own, new_owns, new_row}
+use Rattle.cqp_pool.specs.Parts.{deques_of, stolen, queue_parts}
 
 pub deques_of-new_row : (ids : List DequeId) → deques_of (new_row ids) ≡ ids
 deques_of-new_row [] = refl

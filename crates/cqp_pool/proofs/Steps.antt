@@ -1,5 +1,6 @@
 -- Each kind of step keeps the rule, and what it tells the pass that made it.
-use Rattle.std.proofs.Common.{◌≡◌, ◌≢◌, ℕ, zero, suc, ◌+◌, ◌-◌, ◌<◌, List, [], ◌∷◌, ◌++◌, map, length, set, sym, refl, ap, subst, ⊎_elim, arith}
+use Rattle.std.proofs.Common.{◌≡◌, ◌≢◌, ℕ, zero, suc, ◌+◌, ◌-◌, ◌<◌, List, [], ◌∷◌, ◌++◌, map}
+use Rattle.std.proofs.Common.{length, set, sym, refl, ap, subst, ⊎_elim, arith}
 use Rattle.std.specs.List.{sum_by}
 use Rattle.std.proofs.lemmas.List.Sums.{sum_by-append, sum_by-cons}
 use mathlib.Core.Option.{some, some-injective, some-ne-none}
@@ -7,7 +8,8 @@ use lib.ListN.{get_elem?}
 use Rattle.crossbeam_deque.specs.Tasks.{Pushes, Takes, Finds, FindsFew, Learns, Forks, Merges}
 use Rattle.crossbeam_deque.proofs.Lists.{at_set, at_snoc, set_here}
 use Rattle.cqp_pool.specs.declared.tally.Tally.{Tally}
-use Rattle.cqp_pool.specs.Tallies.{tally, new_tally, PartlessAreEmpty, IsAccounted, WasEmpty, Covers, IsDrained}
+use Rattle.cqp_pool.specs.Tallies.{tally, new_tally, PartlessAreEmpty, IsAccounted, WasEmpty}
+use Rattle.cqp_pool.specs.Tallies.{Covers, IsDrained}
 use Rattle.cqp_pool.proofs.Sums.{sum_by-set_at, sum_by-snoc, sum_by_of_one}
 
 abbrev parts : Tally → ℕ

@@ -1,5 +1,6 @@
 -- A row of ways in is taken in, from its end.
-use Rattle.std.proofs.Common.{◌≡◌, ℕ, zero, suc, ◌+◌, ◌<◌, List, [], ◌∷◌, length, take, get_or, set, refl, sym, ap, ◌∙◌, arith}
+use Rattle.std.proofs.Common.{◌≡◌, ℕ, zero, suc, ◌+◌, ◌<◌, List, [], ◌∷◌, length, take, get_or, set}
+use Rattle.std.proofs.Common.{refl, sym, ap, ◌∙◌, arith}
 use Rattle.std.proofs.lemmas.List.{get_or-take, get_or_default}
 use Rattle.cqp_pool.proofs.Rows.{get_or-deques_in, length-deques_in}
 use Rattle.cqp_pool.specs.Parts.{Reached, Owned, deques_of, deques_in, takes_in, zip_in}

@@ -1,10 +1,9 @@
--- How many nodes, fragments and offsets a subtree has, and how many subtrees are pending.
-use Rattle.std.proofs.Common.{◌≡◌, ℕ, ◌+◌, ◌≤◌, List, [], ◌∷◌, length, refl, ◌∙◌, ap}
+-- How many nodes, fragments and offsets a subtree has, and how many numbers its parts.
+use Rattle.std.proofs.Common.{◌≡◌, ℕ, ◌+◌, ◌≤◌, [], ◌∷◌, length, refl}
 use Rattle.std.proofs.Common.{length-append, arith}
 use Rattle.cqp_postorder.specs.Subtrees.{Subtree, over, Subtrees, no_parts, part_and, length_of}
 use Rattle.cqp_postorder.specs.Subtrees.{size_of, sizes_of, nodes_of, all_nodes_of, offsets_of}
-use Rattle.cqp_postorder.specs.Subtrees.{all_offsets_of, pieces_of, all_pieces_of, Pending, nothing}
-use Rattle.cqp_postorder.specs.Subtrees.{behind, pending_count, pending_numbers, AreLast}
+use Rattle.cqp_postorder.specs.Subtrees.{all_offsets_of, pieces_of, all_pieces_of, numbers_of}
 
 mutual
   -- a subtree has as many nodes as its size says
@@ -61,13 +60,7 @@ pub length_within_sizes : (ts : Subtrees) → length_of ts ≤ sizes_of ts
 length_within_sizes no_parts = omega arith
 length_within_sizes (part_and (over k at us) ts) = omega (arith, length_within_sizes ts)
 
--- each pending subtree has a number
-pub length-pending_numbers : (ps : Pending) → length (pending_numbers ps) ≡ pending_count ps
-length-pending_numbers nothing = refl
-length-pending_numbers (behind ps n t) =
-    omega (arith, length-append (pending_numbers ps) (n ∷ []), length-pending_numbers ps)
-
--- there are as many numbers of parts as the node has parts
-pub last_many : (sizes : List ℕ) (end count : ℕ) (ps : Pending) (found : List ℕ)
-    → found ≡ pending_numbers ps → AreLast sizes end count ps → length found ≡ count
-last_many sizes end count ps found e h = ap length e ∙ length-pending_numbers ps ∙ h.counted
+-- parts that stand behind one another have as many numbers
+pub length-numbers_of : (n : ℕ) (ts : Subtrees) → length (numbers_of n ts) ≡ length_of ts
+length-numbers_of n no_parts = refl
+length-numbers_of n (part_and t ts) = omega (arith, length-numbers_of (n + size_of t) ts)

@@ -5,14 +5,10 @@ use Rattle.std.proofs.Common.{length-append, arith}
 use Rattle.std.proofs.lemmas.List.{set_comm, set_at}
 use Rattle.cqp_postorder.specs.Subtrees.{Subtree, Subtrees, no_parts, part_and, length_of, size_of}
 use Rattle.cqp_postorder.specs.Subtrees.{sizes_of, numbers_of, pieces_of, all_pieces_of}
-use Rattle.cqp_postorder.specs.Subtrees.{piece_sizes, all_piece_sizes, IsCounted, AreCounted}
-use Rattle.cqp_postorder.specs.Subtrees.{Pending, nothing, behind, pending_count, pending_numbers}
+use Rattle.cqp_postorder.specs.Subtrees.{piece_sizes, all_piece_sizes, AreCounted}
+use Rattle.cqp_postorder.specs.Subtrees.{Pending, behind, pending_count, pending_numbers}
 use Rattle.cqp_postorder.specs.Subtrees.{pending_pieces, pending_sizes, AreAdjacent}
-
--- the list with these items from number n on
-abbrev pub written : {X : Type 0} → ℕ → List X → List X → List X
-written n [] out = out
-written n (x ∷ xs) out = set (written (n + 1) xs out) n x
+use Rattle.cqp_postorder.specs.Placing.{written, filled, ArePlaced}
 
 -- two lists of items are written one after another
 pub written-append : {X : Type 0} (n : ℕ) (xs ys out : List X)
@@ -49,11 +45,6 @@ written_behind front (x ∷ xs) d n h =
 pub written_whole : {X : Type 0} (xs : List X) (d : X) (n : ℕ) → n ≡ length xs
     → written 0 xs (replicate n d) ≡ xs
 written_whole xs d n h = ap (λ k. written 0 xs (replicate k d)) h ∙ written_behind [] xs d 0 refl
-
--- the list with what f gives of each pending subtree from its number on
-abbrev pub filled : {X : Type 0} → (ℕ → Subtree → List X) → Pending → List X → List X
-filled f nothing out = out
-filled f (behind ps n t) out = filled f ps (written n (f n t) out)
 
 -- these subtrees too, the first at n and each behind the one before it
 abbrev pub spread : Pending → ℕ → Subtrees → Pending
@@ -98,11 +89,7 @@ adjacent_spread ps n end no_parts e h = let same : n ≡ end = omega arith in rw
 adjacent_spread ps n end (part_and t ts) e h =
     adjacent_spread (behind ps n t) (n + size_of t) end ts (omega arith) (refl, h)
 
--- the pending subtrees end within the limit, and are counted
-abbrev pub ArePlaced : ℕ → Pending → Type 0
-ArePlaced limit nothing = Unit {0}
-ArePlaced limit (behind ps n t) = (n + size_of t ≤ limit) × IsCounted t × ArePlaced limit ps
-
+-- parts that end within the limit too
 pub placed_spread : (limit : ℕ) (ps : Pending) (n : ℕ) (ts : Subtrees) → n + sizes_of ts ≤ limit
     → AreCounted ts → ArePlaced limit ps
     → ArePlaced limit (spread ps n ts)

@@ -2,7 +2,7 @@ mod Counts
 mod Filling
 mod ListExamples
 mod Parts
-mod Placing
+mod Placed
 mod Sizing
 mod Uniform
 mod UniformLists

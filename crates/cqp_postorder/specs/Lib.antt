@@ -1,3 +1,4 @@
 pub mod ListExamples
+pub mod Placing
 pub mod Postorder
 pub mod Subtrees

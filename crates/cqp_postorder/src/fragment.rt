@@ -1,7 +1,7 @@
 //! The nodes of a process as they are read, in postorder: each stands behind its parts, and names
 //! none of them by number.
 
-ghost use Rattle.std.specs.Prelude.{◌≡◌, [], ◌++◌, OnOk};
+ghost use Rattle.std.specs.Prelude.{◌≡◌, [], ◌++◌, OnOk, OnErr};
 
 use crate::NoMemory;
 use cqp_outside::Bytes;
@@ -77,7 +77,8 @@ impl Fragments {
 
     /// Puts a node last.
     pub fn push(&mut self, kind: Kind, at: u32) -> Result<(), NoMemory>
-        ensures { OnOk result (self.new ≡ self.old ++ ends at kind) }
+        ensures ok { OnOk result (self.new ≡ self.old ++ ends at kind) }
+        ensures err { OnErr result (self.new ≡ self.old) }
     {
         self.items.push(Fragment { kind, at })?;
         Ok(())

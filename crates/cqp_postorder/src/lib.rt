@@ -3,6 +3,9 @@
 
 mod fragment;
 mod lists;
+mod nodes;
+mod numbers;
+mod placing;
 mod sizes;
 #[cfg(test)]
 mod tests;

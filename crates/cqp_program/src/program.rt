@@ -10,9 +10,9 @@ use cqp_syntax::Types;
 use std::alloc::Global;
 use std::marker::Model;
 
-/// The tree of a program text, as lists: its definitions in order, and the main process. Each name in
-/// it is a name of the grammar, what is applied or measured has an operand, and an `Op` has one place
-/// or two.
+/// The tree of a program text, as lists: its definitions in order, and the main process. Each name
+/// in it is a name of the grammar, what is applied or measured has an operand, and an `Op` has one
+/// place or two.
 #[derive(Debug, Drop)]
 pub struct Program {
     pub defs: Defs,
@@ -27,7 +27,8 @@ impl Model for Program {
 
     ghost view = { λ p. record { defs = p.defs; main = p.main } };
 
-    ghost invariant = { λ p. (t : ProgramTree) × IsListing (record { defs = p.defs; main = p.main }) t };
+    ghost invariant = { λ p. (t : ProgramTree)
+        × IsListing (record { defs = p.defs; main = p.main }) t };
 }
 
 /// A definition. `at` is the offset of its name.

@@ -1,7 +1,8 @@
 //! Numerators of amplitudes. Contracts see the four whole numbers, which have no bounds there.
 
 ghost use Rattle.std.specs.Prelude.{◌≡◌, ◌↔◌, IsTrue};
-ghost use Rattle.cqp_ring.specs.Amp.{AmpFits, HasParities, IsRoot2Times, amp_difference, amp_product, amp_sum, root2_amp, w_power};
+ghost use Rattle.cqp_ring.specs.Amp.{AmpFits, HasParities, IsRoot2Times, amp_difference};
+ghost use Rattle.cqp_ring.specs.Amp.{amp_product, amp_sum, root2_amp, w_power};
 ghost use Rattle.cqp_ring.specs.Root.{RootFits, norm_of};
 
 use crate::halves::{half_difference, half_sum, is_same_parity};

@@ -6,7 +6,8 @@ ghost use Rattle.cqp_ring.specs.declared.amp.Amp.{Amp};
 ghost use Rattle.cqp_ring.specs.declared.root.Root.{Root};
 ghost use Rattle.cqp_ring.specs.declared.weight.Weight.{Weight};
 ghost use Rattle.cqp_ring.specs.Amp.{amp_product, w_power, zero_amp};
-ghost use Rattle.cqp_ring.specs.Root.{IsAtLeastZero, IsAtMost, IsProportional, norm_of, root_at, root_product, root_sum, zero_root};
+ghost use Rattle.cqp_ring.specs.Root.{IsAtLeastZero, IsAtMost, IsProportional, norm_of, root_at};
+ghost use Rattle.cqp_ring.specs.Root.{root_product, root_sum, zero_root};
 ghost use Rattle.cqp_ring.specs.Weight.{IsLeast, IsSameNumber, IsSameValue};
 
 /// Products commute, associate and distribute over sums, and powers of w come round after eight.

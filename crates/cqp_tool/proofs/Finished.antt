@@ -1,5 +1,7 @@
 -- A sketch that is finished, and trees that have no line.
-use Rattle.std.proofs.Common.{◌≡◌, ℕ, zero, suc, ◌+◌, ◌<◌, ◌≤◌, List, [], ◌∷◌, ◌++◌, map, length, Bool, true, false, refl, sym, ap, ◌∙◌, arith, subst, inl, inr, Bor, append-nil, length-append}
+use Rattle.std.proofs.Common.{◌≡◌, ℕ, zero, suc, ◌+◌, ◌<◌, ◌≤◌, List, [], ◌∷◌, ◌++◌, map, length}
+use Rattle.std.proofs.Common.{Bool, true, false, refl, sym, ap, ◌∙◌, arith, subst, inl, inr, Bor}
+use Rattle.std.proofs.Common.{append-nil, length-append}
 use Rattle.std.specs.Prelude.{Some, None, Option, MatchBool, replicate, reverse, nat_lt, ◌⊎◌}
 use Rattle.std.specs.Option.{option_map}
 use Rattle.std.specs.List.{list_all, range_with_len}
@@ -14,14 +16,17 @@ use Rattle.cqp_syntax.specs.declared.node.Node.TheVariants as node
 use Rattle.cqp_syntax.specs.TypeTrees.{qbit_type, type_at}
 use Rattle.cqp_syntax.specs.Trees.{Process, nil, qbit, act}
 use Rattle.cqp_syntax.specs.Listing.{Listing, IsListing, IsSound, breadth_of, has_operands}
-use Rattle.cqp_cells.specs.Line.{IsLineGate, is_h, is_x, gate_on_name, ends, qubits_made, h_in, h_applied}
+use Rattle.cqp_cells.specs.Line.{IsLineGate, is_h, is_x, gate_on_name, ends, qubits_made, h_in}
+use Rattle.cqp_cells.specs.Line.{h_applied}
 use Rattle.cqp_grammar.specs.Trees as tree
 use Rattle.cqp_grammar.specs.Trees.{Occurrence, ProcessTree}
 use Rattle.cqp_tool.specs.declared.piece.Piece.TheVariants.{Qbit, H, X}
 use Rattle.cqp_tool.specs.Pieces.{HasPiece, binds, applies_h, applies_x}
 use Rattle.cqp_tool.specs.Line.{binder_of, gate_before, line_of, IsLineTree}
-use Rattle.cqp_tool.specs.Draft.{Sketch, h_of, with_binder, AddsBinder, AddsGate, AddsPiece, RefusesPiece, LacksGate, MakesNoLine, IsSketch, IsWhole}
-use Rattle.cqp_tool.proofs.Sketches.{list_all-append, gate_tree, gate_line, h_counted, binds_sketch, applies_sketch}
+use Rattle.cqp_tool.specs.Draft.{Sketch, h_of, with_binder, AddsBinder, AddsGate, AddsPiece}
+use Rattle.cqp_tool.specs.Draft.{RefusesPiece, LacksGate, MakesNoLine, IsSketch, IsWhole}
+use Rattle.cqp_tool.proofs.Sketches.{list_all-append, gate_tree, gate_line, h_counted, binds_sketch}
+use Rattle.cqp_tool.proofs.Sketches.{applies_sketch}
 use Rattle.cqp_tool.proofs.Offsets.{length-process_offsets}
 
 -- the lists of a sketch with `0` behind it, and offsets

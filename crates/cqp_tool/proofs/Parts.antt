@@ -7,10 +7,13 @@ use Rattle.cqp_program.specs.declared.program.Occ.{Occ}
 use Rattle.cqp_program.specs.declared.tree.TreeNode.{TreeNode}
 use Rattle.cqp_program.specs.declared.tree.TreeNode.TheVariants as node
 use Rattle.cqp_program.specs.Listing.{occ, process_nodes, expr_nodes, expr_size}
-use Rattle.cqp_grammar.specs.Trees.{Occurrence, ExprTree, number, unit, name, gate, sig, add, apply, measure, ProcessTree, nil, par, new, qbit, act, input, output, branch, call}
+use Rattle.cqp_grammar.specs.Trees.{Occurrence, ExprTree, number, unit, name, gate, sig, add, apply}
+use Rattle.cqp_grammar.specs.Trees.{measure, ProcessTree, nil, par, new, qbit, act, input, output}
+use Rattle.cqp_grammar.specs.Trees.{branch, call}
 use Rattle.cqp_tool.specs.declared.piece.Piece.{Piece}
 use Rattle.cqp_tool.specs.declared.piece.Piece.TheVariants.{Qbit, H, X}
-use Rattle.cqp_tool.specs.Pieces.{IsFirstAct, IsFirstPiece, HasNoPiece, HasPiece, binds, applies_h, applies_x, AreNodes}
+use Rattle.cqp_tool.specs.Pieces.{IsFirstAct, IsFirstPiece, HasNoPiece, HasPiece, binds, applies_h}
+use Rattle.cqp_tool.specs.Pieces.{applies_x, AreNodes}
 use Rattle.cqp_tool.specs.Line.{line_of}
 
 -- the tree is `0`

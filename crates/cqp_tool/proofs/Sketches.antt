@@ -1,6 +1,8 @@
 -- How a sketch grows, and what it is at its end.
-use Rattle.std.proofs.Common.{◌≡◌, ℕ, zero, suc, ◌+◌, ◌<◌, ◌≤◌, List, [], ◌∷◌, ◌++◌, length, Bool, true, false, refl, sym, ap, ◌∙◌, arith, append_assoc, length-append}
-use Rattle.std.specs.Prelude.{Some, None, Option, replicate, sum_by, bytes_eq, ◌==◌, ◌&&◌, ◌||◌, if◌then◌else◌}
+use Rattle.std.proofs.Common.{◌≡◌, ℕ, zero, suc, ◌+◌, ◌<◌, ◌≤◌, List, [], ◌∷◌, ◌++◌, length, Bool}
+use Rattle.std.proofs.Common.{true, false, refl, sym, ap, ◌∙◌, arith, append_assoc, length-append}
+use Rattle.std.specs.Prelude.{Some, None, Option, replicate, sum_by, bytes_eq, ◌==◌, ◌&&◌, ◌||◌}
+use Rattle.std.specs.Prelude.{if◌then◌else◌}
 use Rattle.std.specs.Option.{option_map}
 use Rattle.std.specs.List.{list_all, range_with_len}
 use Rattle.std.proofs.lemmas.List.Sums.{sum_by-append}
@@ -13,13 +15,15 @@ use Rattle.cqp_syntax.specs.Trees.{named, Process, qbit, act}
 use Rattle.cqp_syntax.specs.Preorder.{process_nodes}
 use Rattle.cqp_syntax.specs.Scope.{is_bound, is_scoped}
 use Rattle.cqp_syntax.specs.Listing.{breadth_of, has_operands}
-use Rattle.cqp_cells.specs.Line.{IsLineGate, is_h, is_x, gate_on_name, binds, applies, h_in, h_applied}
+use Rattle.cqp_cells.specs.Line.{IsLineGate, is_h, is_x, gate_on_name, binds, applies, h_in}
+use Rattle.cqp_cells.specs.Line.{h_applied}
 use Rattle.cqp_cells.specs.Progress.{names_below}
 use Rattle.cqp_grammar.specs.Trees as tree
 use Rattle.cqp_grammar.specs.Trees.{Occurrence, ProcessTree}
 use Rattle.cqp_program.specs.Listing.{process_size}
 use Rattle.cqp_tool.specs.Line.{binder_of, gate_before, line_of}
-use Rattle.cqp_tool.specs.Draft.{Sketch, blank, with_binder, gate_nodes, h_of, with_gate, breadth, IsSketch}
+use Rattle.cqp_tool.specs.Draft.{Sketch, blank, with_binder, gate_nodes, h_of, with_gate, breadth}
+use Rattle.cqp_tool.specs.Draft.{IsSketch}
 
 option_map-map : {A B C : Type 0} (f : B → C) (g : A → B) (o : Option A) → option_map f (option_map g o) ≡ option_map (λ x. f (g x)) o
 option_map-map f g None = refl

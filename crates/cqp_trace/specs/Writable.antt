@@ -1,5 +1,6 @@
 -- The traces that have a text: each entry has a line, and the numbers are in range.
-use Rattle.std.specs.Prelude.{◌≡◌, ℕ, ◌^◌, ◌≤◌, pos, nat_abs, ◌≤ℤ◌, length, Bool, true, false, ◌==◌, ◌&&◌, nat_lt, nat_le}
+use Rattle.std.specs.Prelude.{◌≡◌, ℕ, ◌^◌, ◌≤◌, pos, nat_abs, ◌≤ℤ◌, length, Bool, true, false, ◌==◌}
+use Rattle.std.specs.Prelude.{◌&&◌, nat_lt, nat_le}
 use Rattle.std.specs.List.{list_all}
 use Rattle.cqp_ring.specs.declared.weight.Weight.{Weight}
 use Rattle.cqp_syntax.specs.declared.op.Op.{Op}
@@ -26,7 +27,9 @@ abbrev pub is_writable : Deed → Bool
 is_writable (deed.Qbit q) = is_qubit q
 is_writable (deed.Pick o) = is_picked o
 is_writable (deed.Gate o qs) = (length qs == places_of o) && list_all is_qubit qs
-is_writable (deed.Measure qs m) = nat_le 1 (length qs) && nat_le (length qs) 12 && list_all is_qubit qs && nat_lt m (2 ^ length qs)
+is_writable (deed.Measure qs m) =
+    nat_le 1 (length qs) && nat_le (length qs) 12 && list_all is_qubit qs
+    && nat_lt m (2 ^ length qs)
 is_writable d = true
 
 -- the weight has a text

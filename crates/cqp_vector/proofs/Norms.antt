@@ -1,5 +1,6 @@
 -- What gates and new qubits do to the norm of a state.
-use Rattle.std.proofs.Common.{◌≡◌, ℕ, ◌+◌, ◌*◌, ◌/◌, ◌%◌, ◌^◌, ◌<◌, List, length, map, refl, sym, ap, ◌∙◌, arith, zero-add}
+use Rattle.std.proofs.Common.{◌≡◌, ℕ, ◌+◌, ◌*◌, ◌/◌, ◌%◌, ◌^◌, ◌<◌, List, length, map, refl, sym}
+use Rattle.std.proofs.Common.{ap, ◌∙◌, arith, zero-add}
 use Rattle.std.specs.Prelude.{◌==◌, if◌then◌else◌}
 use Rattle.std.specs.List.{range_with_len}
 use Rattle.std.proofs.lemmas.Int.{ints}
@@ -13,7 +14,8 @@ use Rattle.cqp_vector.specs.State.{amp_at, weight_of, qubit_bit, with_zero, with
 use Rattle.cqp_vector.specs.Gate.{after_single}
 use Rattle.cqp_vector.proofs.Pairs.{whole}
 use Rattle.cqp_vector.proofs.Ring.{h_doubles}
-use Rattle.cqp_vector.proofs.Sums.{same_root, sum_from, root_sum_comm, sum-zero, norm_by_place, norm_as_sum, halved, KeepsSums, blocks}
+use Rattle.cqp_vector.proofs.Sums.{same_root, sum_from, root_sum_comm, sum-zero, norm_by_place}
+use Rattle.cqp_vector.proofs.Sums.{norm_as_sum, halved, KeepsSums, blocks}
 
 -- twice a norm
 abbrev pub doubled : Root → Root

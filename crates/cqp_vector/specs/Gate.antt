@@ -4,7 +4,8 @@ use Rattle.cqp_ring.specs.declared.amp.Amp.{Amp}
 use Rattle.cqp_ring.specs.Amp.{amp_sum, amp_difference, amp_product, amp_negative, w_power}
 use Rattle.cqp_syntax.specs.declared.op.Op.{Op}
 use Rattle.cqp_syntax.specs.declared.op.Op.TheVariants as op
-use Rattle.cqp_vector.specs.State.{State, amp_at, state_by, qubit_bit, with_zero, with_one, exchanged}
+use Rattle.cqp_vector.specs.State.{State, amp_at, state_by, qubit_bit, with_zero, with_one}
+use Rattle.cqp_vector.specs.State.{exchanged}
 
 -- one of two numerators, by the bit of qubit q in place k
 abbrev pub by_bit : ℕ → ℕ → ℕ → Amp → Amp → Amp

@@ -1,7 +1,8 @@
 use Rattle.std.proofs.Common.{subst}
 use Rattle.cqp_syntax.specs.Listing.{root}
 use Rattle.cqp_cells.specs.Progress.{IsOnTheWay}
-use Rattle.cqp_cells.proofs.Lines.{begins, binds_next, gate_made, applies_next, ends_lawfully, ends_in_state}
+use Rattle.cqp_cells.proofs.Lines.{begins, binds_next, gate_made, applies_next, ends_lawfully}
+use Rattle.cqp_cells.proofs.Lines.{ends_in_state}
 use Rattle.cqp_cells.proofs.line.line_run.Goals as goal
 
 pub strokes-init : goal.strokes-init

@@ -2,7 +2,8 @@ use Rattle.std.proofs.Common.{◌≡◌, All, length, take, ap, sym, ◌∙◌, 
 use Rattle.std.specs.List.{sum_by}
 use Rattle.std.proofs.Math.Seq.{take-length}
 use Rattle.cqp_pool.specs.Parts.{deques_in, pushed_in, taken_in, pushed_kept, taken_kept}
-use Rattle.cqp_pool.proofs.AllIn.{Leads, Lacks, all_in_lacks, pushed_in-all_in, sum_by-taken_in-all_in}
+use Rattle.cqp_pool.proofs.AllIn.{Leads, Lacks, all_in_lacks, pushed_in-all_in}
+use Rattle.cqp_pool.proofs.AllIn.{sum_by-taken_in-all_in}
 use Rattle.cqp_pool.proofs.Left.{sum_by-three}
 use Rattle.cqp_pool.proofs.gather.gathered.Goals as goal
 

@@ -1,7 +1,8 @@
 use Rattle.std.proofs.Common.{◌≡◌, ◌<◌, Contains, length, get_or, ap, sym, ◌∙◌, subst, arith}
 use Rattle.std.specs.List.{sum_by}
 use Rattle.cqp_pool.specs.Pools.{LaneState, IsWhole, numbers_of, pushed_by, taken_by}
-use Rattle.cqp_pool.proofs.Orders.{whole_count, whole_contains, whole_after_swap, as_often_after_swap, placed_one_more}
+use Rattle.cqp_pool.proofs.Orders.{whole_count, whole_contains, whole_after_swap}
+use Rattle.cqp_pool.proofs.Orders.{as_often_after_swap, placed_one_more}
 use Rattle.cqp_pool.proofs.gather.in_order.Goals as goal
 
 pub place_of-at-requires : goal.place_of-at-requires

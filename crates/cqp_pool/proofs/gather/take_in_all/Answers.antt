@@ -1,7 +1,9 @@
-use Rattle.std.proofs.Common.{◌≡◌, ◌+◌, ◌-◌, ◌<◌, length, take, get_or, vec_len, refl, ap, sym, ◌∙◌, arith}
+use Rattle.std.proofs.Common.{◌≡◌, ◌+◌, ◌-◌, ◌<◌, length, take, get_or, vec_len, refl, ap, sym, ◌∙◌}
+use Rattle.std.proofs.Common.{arith}
 use Rattle.std.proofs.Math.Seq.{take-length}
 use Rattle.cqp_pool.specs.Parts.{Owned}
-use Rattle.cqp_pool.proofs.Zips.{zip_from_end, same_length, last_way, last_owner, leads_there, one_way_more, one_way_less}
+use Rattle.cqp_pool.proofs.Zips.{zip_from_end, same_length, last_way, last_owner, leads_there}
+use Rattle.cqp_pool.proofs.Zips.{one_way_more, one_way_less}
 use Rattle.cqp_pool.proofs.gather.take_in_all.Goals as goal
 
 pub loop-reach-init : goal.loop-reach-init

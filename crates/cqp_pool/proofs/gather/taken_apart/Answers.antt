@@ -1,4 +1,5 @@
-use Rattle.std.proofs.Common.{◌≡◌, ◌+◌, ◌-◌, ◌<◌, ◌++◌, ◌∷◌, [], ℕ, length, take, get_or, vec_len, ap, sym, ◌∙◌, subst, arith}
+use Rattle.std.proofs.Common.{◌≡◌, ◌+◌, ◌-◌, ◌<◌, ◌++◌, ◌∷◌, [], ℕ, length, take, get_or, vec_len}
+use Rattle.std.proofs.Common.{ap, sym, ◌∙◌, subst, arith}
 use Rattle.std.proofs.lemmas.Iterator.Adapters.{YieldsList-from_vec}
 use Rattle.std.proofs.lemmas.Iterator.Consumers.{YieldsList-turn, YieldsList-end}
 use Rattle.std.proofs.lemmas.List.{take_more, length_push, length-take-le}
@@ -8,7 +9,8 @@ use Rattle.cqp_pool.specs.Pools.{LaneState}
 use Rattle.cqp_pool.specs.Parts.{Entered}
 use Rattle.cqp_pool.specs.Rooms.{HasRoom}
 use Rattle.cqp_pool.specs.Apart.{IsApart}
-use Rattle.cqp_pool.proofs.Aparts.{apart_first, apart_more, apart_same, same_queue, door_some, next_lane, one_taken}
+use Rattle.cqp_pool.proofs.Aparts.{apart_first, apart_more, apart_same, same_queue, door_some}
+use Rattle.cqp_pool.proofs.Aparts.{next_lane, one_taken}
 use Rattle.cqp_pool.proofs.gather.taken_apart.Goals as goal
 
 pub loop-lane-init : goal.loop-lane-init
@@ -28,10 +30,12 @@ loop-lane-init g c =
           let few : 0 < length pool.deques = let a = order.count in omega arith in
           let IsSo : Entered → Type 0 = IsApart g.T.Numbered.number pool (take 1 lanes.items) c.add-door.new.self.owns.items c.add-door.new.self.rows.items
           c.add-door.new.self.kepts.items in
-          subst IsSo (sym c.add-door.ensures.door) (apart_same g.T.Numbered.number pool (first ∷ []) (take 1 lanes.items) (p.own ∷ []) c.add-door.new.self.owns.items
+          subst IsSo (sym c.add-door.ensures.door) (apart_same g.T.Numbered.number pool (first ∷ [])
+          (take 1 lanes.items) (p.own ∷ []) c.add-door.new.self.owns.items
           (p.row ∷ []) c.add-door.new.self.rows.items (p.kept ∷ []) c.add-door.new.self.kepts.items p.door
           (take_more lanes.items 0 first some ∙ ap (λ x. x ∷ []) (sym here))
-          (c.add-door.ensures.owns ∙ ap (λ l. l ++ p.own ∷ []) room.owns) (c.add-door.ensures.rows ∙ ap (λ l. l ++ p.row ∷ []) room.rows) (c.add-door.ensures.kepts
+          (c.add-door.ensures.owns ∙ ap (λ l. l ++ p.own ∷ []) room.owns)
+          (c.add-door.ensures.rows ∙ ap (λ l. l ++ p.row ∷ []) room.rows) (c.add-door.ensures.kepts
           ∙ ap (λ l. l ++ p.kept ∷ []) room.kepts)
           (apart_first g.T.Numbered.number pool first p.own p.row p.door p.kept c.into_parts.ensures of_pool number few));
     }
@@ -55,7 +59,9 @@ absorb-requires g c =
     let number = g.T.Numbered.number in
     let pool = c.requires.order.0 in
     record {
-      queue = ap (λ (d : Entered). d.queue) c.add-other.ensures.door ∙ same_queue number pool c.in-Some.lane p.own p.row p.door p.kept parts of_pool ∙ sym before.queue;
+      queue = ap (λ (d : Entered). d.queue) c.add-other.ensures.door
+          ∙ same_queue number pool c.in-Some.lane p.own p.row p.door p.kept parts of_pool
+          ∙ sym before.queue;
       part = door_some number pool c.in-Some.lane p.own p.row p.door p.kept parts of_pool (take
           (length yielded + 1) lanes) c.loop-lane.parts.owns.items c.loop-lane.parts.rows.items c.loop-lane.parts.kepts.items c.loop-lane.door before some;
     }

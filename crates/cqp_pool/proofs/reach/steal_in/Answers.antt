@@ -1,7 +1,8 @@
 use Rattle.std.proofs.Common.{◌+◌, ◌∙◌, List, All, take, sym, subst, refl}
 use Rattle.cqp_pool.specs.Tallies.{WasEmpty}
 use Rattle.cqp_pool.specs.Parts.{Reached, passes_of}
-use Rattle.cqp_pool.proofs.Reaches.{deques_of-set, stolen_one_more, set_unchanged, looked_at_one_more, looked_at_all}
+use Rattle.cqp_pool.proofs.Reaches.{deques_of-set, stolen_one_more, set_unchanged}
+use Rattle.cqp_pool.proofs.Reaches.{looked_at_one_more, looked_at_all}
 use Rattle.cqp_pool.proofs.reach.steal_in.Goals as goal
 
 pub returns-in-Some-clause-deques : goal.returns-in-Some-clause-deques

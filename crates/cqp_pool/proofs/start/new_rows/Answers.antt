@@ -1,4 +1,5 @@
-use Rattle.std.proofs.Common.{◌≡◌, ◌<◌, ◌+◌, ◌-◌, ◌∙◌, ℕ, ap, sym, subst, arith, List, All, map, Vec, Global}
+use Rattle.std.proofs.Common.{◌≡◌, ◌<◌, ◌+◌, ◌-◌, ◌∙◌, ℕ, ap, sym, subst, arith, List, All, map}
+use Rattle.std.proofs.Common.{Vec, Global}
 use Rattle.std.proofs.lemmas.List.Elements.{All-push}
 use Rattle.cqp_pool.specs.Pools.{DequeId}
 use Rattle.cqp_pool.specs.Parts.{Owned, Reached, lend, deques_in, new_row}

@@ -1,7 +1,8 @@
 use Rattle.std.proofs.Common.{◌≡◌, ◌<◌, ◌++◌, ◌∷◌, [], ◌∙◌, ap, sym, arith, length, get_or, take}
 use Rattle.std.proofs.Math.Seq.{take-length}
 use Rattle.cqp_pool.specs.Parts.{Owned, lend, new_reach, new_row, deques_in}
-use Rattle.cqp_pool.proofs.Rows.{get_or-map_first, map_first_more, map_first_all, new_row_more, get_or-deques_in, length-deques_in}
+use Rattle.cqp_pool.proofs.Rows.{get_or-map_first, map_first_more, map_first_all, new_row_more}
+use Rattle.cqp_pool.proofs.Rows.{get_or-deques_in, length-deques_in}
 use Rattle.cqp_pool.proofs.start.row_into_all.Goals as goal
 
 pub reach-requires : goal.reach-requires

@@ -1,5 +1,6 @@
 use Rattle.std.proofs.Common.{◌≡◌, ◌+◌, ◌-◌, ◌<◌, Some, List, ◌∷◌, All}
-use Rattle.std.proofs.Common.{Vec, Global, length, take, get_or, vec_len, ap, sym, ◌∙◌, subst, arith}
+use Rattle.std.proofs.Common.{Vec, Global, length, take, get_or, vec_len, ap, sym, ◌∙◌, subst}
+use Rattle.std.proofs.Common.{arith}
 use Rattle.std.specs.List.{range_with_len}
 use Rattle.std.proofs.lemmas.List.Elements.{All-cons, All-pop}
 use Rattle.cqp_pool.specs.declared.tally.Tally.{Tally}
@@ -7,8 +8,10 @@ use Rattle.cqp_pool.specs.Tallies.{tally, new_tally}
 use Rattle.cqp_pool.specs.Pools.{DequeId, PoolId, LaneState, IsNew, numbers_of}
 use Rattle.cqp_pool.specs.Parts.{Reached, deques_in, deques_of, new_owns, new_row, stolen}
 use Rattle.cqp_pool.proofs.Rows.{length-deques_in}
-use Rattle.cqp_pool.proofs.Seats.{deques_of-new_row, stolen-new_row, take-new_owns, popped, new_view}
-use Rattle.cqp_pool.proofs.Seats.{seats, queue_parts-after, range_one_more, all_numbers, whole_by_numbers}
+use Rattle.cqp_pool.proofs.Seats.{deques_of-new_row, stolen-new_row, take-new_owns, popped}
+use Rattle.cqp_pool.proofs.Seats.{new_view}
+use Rattle.cqp_pool.proofs.Seats.{seats, queue_parts-after, range_one_more, all_numbers}
+use Rattle.cqp_pool.proofs.Seats.{whole_by_numbers}
 use Rattle.cqp_pool.proofs.start.seated.Goals as goal
 
 abbrev IsRow : List DequeId → Vec Reached Global → Type 0

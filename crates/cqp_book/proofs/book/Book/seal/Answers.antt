@@ -1,7 +1,8 @@
 use Rattle.std.proofs.Common.{arith}
 use Rattle.cqp_book.specs.Steps.{CanAppend}
 use Rattle.cqp_book.specs.Views.{pairs_of}
-use Rattle.cqp_book.proofs.BookLemmas.{enabled_whole, run_sealed, find_sealed, away_sealed, book_seals}
+use Rattle.cqp_book.proofs.BookLemmas.{enabled_whole, run_sealed, find_sealed, away_sealed}
+use Rattle.cqp_book.proofs.BookLemmas.{book_seals}
 use Rattle.cqp_book.proofs.book.Book.seal.Given.{Over}
 use Rattle.cqp_book.proofs.book.Book.seal.Goals.{After-append}
 use Rattle.cqp_book.proofs.book.Book.seal.Goals as goal

@@ -3,7 +3,8 @@ use Rattle.std.specs.List.{sum_by}
 use Rattle.cqp_pool.specs.declared.tally.Tally.{Tally}
 use Rattle.cqp_pool.specs.Often.{AddUp, IsWithin}
 use Rattle.cqp_pool.specs.Pools.{GatheredState}
-use Rattle.cqp_pool.specs.Parts.{Owned, Log, IsSettled, pushed_in, taken_in, pushed_kept, taken_kept}
+use Rattle.cqp_pool.specs.Parts.{Owned, Log, IsSettled, pushed_in, taken_in, pushed_kept}
+use Rattle.cqp_pool.specs.Parts.{taken_kept}
 use Rattle.cqp_pool.proofs.Gives.{joined_within, sum_by-push}
 use Rattle.cqp_pool.proofs.Left.{some_left, nothing_left, taken_one_more}
 use Rattle.cqp_pool.proofs.gathered.Gathered.left.Goals as goal

@@ -1,7 +1,7 @@
 use Rattle.std.proofs.Common.{◌-◌}
 use Rattle.cqp_postorder.specs.Subtrees.{Pending, AreLast}
 use Rattle.cqp_postorder.proofs.Parts.{Walked}
-use Rattle.cqp_postorder.proofs.lists.find_parts.Given as goal
+use Rattle.cqp_postorder.proofs.numbers.find_parts.Given as goal
 
 abbrev pub invariant-loop : goal.invariant-loop
 invariant-loop l =

@@ -1,6 +1,6 @@
 use Rattle.std.proofs.Common.{◌≡◌, ◌<◌, ◌-◌, ◌+◌, arith, ◌∙◌}
 use Rattle.cqp_postorder.proofs.Parts.{walked_none, part_some, part_step, walked_all}
-use Rattle.cqp_postorder.proofs.lists.find_parts.Goals as goal
+use Rattle.cqp_postorder.proofs.numbers.find_parts.Goals as goal
 
 pub loop-init : goal.loop-init
 loop-init c = λ ps last.

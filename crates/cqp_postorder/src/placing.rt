@@ -1,0 +1,109 @@
+//! The lists of a process while its fragments are placed, from the last to the first. The root has
+//! number 0, and the numbers of a node's parts are known from their sizes.
+
+ghost use Rattle.std.specs.Prelude.{◌≡◌, ◌<◌, ◌^◌, List, [], ◌∷◌, ◌++◌, length, replicate};
+ghost use Rattle.std.specs.Prelude.{IfOk, OnOk};
+ghost use Rattle.cqp_program.specs.declared.tree.TreeNode.TheVariants.{Nil};
+ghost use Rattle.cqp_postorder.specs.declared.fragment.Fragment.{Fragment};
+ghost use Rattle.cqp_postorder.specs.Subtrees.{Subtree, IsCounted, pieces_of, part_count};
+ghost use Rattle.cqp_postorder.specs.Subtrees.{nodes_of, offsets_of};
+
+use crate::NoMemory;
+use crate::fragment::Fragment;
+use crate::nodes::node_of;
+use crate::numbers::find_parts;
+use crate::sizes::{parts_of, subtree_sizes};
+use cqp_program::{Tree, TreeNode, TreeNodes};
+use cqp_syntax::Names;
+use std::alloc::Global;
+
+/// The lists so far, and what is known of the fragments that are left.
+#[derive(Drop)]
+pub(crate) struct Placing {
+    /// How many nodes each of them is, with all nodes below it.
+    sizes: Vec<u32>,
+    /// The numbers of the nodes that are parts of none of them, the next one last.
+    pending: Vec<u32>,
+    /// The numbers of the parts of the node that was taken last.
+    parts: Vec<u32>,
+    nodes: Vec<TreeNode>,
+    at: Vec<u32>,
+}
+
+impl Placing {
+    ghost use Rattle.cqp_postorder.specs.Placing.{IsPlacing, IsAtNode};
+
+    /// Nothing is placed yet.
+    pub(crate) fn new(alloc: Global, fragments: &[Fragment]) -> Result<Placing, NoMemory>
+        requires one { (t : Subtree) × IsCounted t × (fragments.now ≡ pieces_of t) }
+        requires few { length fragments.now < 2 ^ 31 }
+        ensures { IfOk result (λ p. (t : Subtree) → IsCounted t → fragments.now ≡ pieces_of t
+            → IsPlacing t fragments.now p) }
+    {
+        let sizes = subtree_sizes(alloc, fragments)?;
+        let pending = vec![in alloc; 0]?;
+        let nodes = nils(alloc, fragments.len())?;
+        let at = vec![in alloc; 0; fragments.len()]?;
+        Ok(Placing {
+            sizes,
+            pending,
+            parts: Vec::new(alloc),
+            nodes,
+            at,
+        })
+    }
+
+    /// Places the last of the fragments that are left.
+    pub(crate) fn place(&mut self, alloc: Global, fragment: Fragment) -> Result<(), NoMemory>
+        requires { (t : Subtree) × (left : List Fragment)
+            × IsPlacing t (left ++ fragment ∷ []) self.old }
+        ensures { (t : Subtree) (left : List Fragment)
+            → IsPlacing t (left ++ fragment ∷ []) self.old
+            → OnOk result (IsPlacing t left self.new) }
+    {
+        let Fragment { kind, at } = fragment;
+        let n = self.take(parts_of(&kind))?;
+        let node = node_of(alloc, kind, self.parts.as_slice())?;
+        self.pending.extend_from_slice(self.parts.as_slice())?;
+        self.nodes[n as usize] = node;
+        self.at[n as usize] = at;
+        Ok(())
+    }
+
+    /// Takes the next number, and finds the numbers of the parts of its node, which are so many.
+    fn take(&mut self, count: usize) -> Result<u32, NoMemory>
+        requires { (t : Subtree) × (left : List Fragment) × (x : Fragment)
+            × IsPlacing t (left ++ x ∷ []) self.old × (count ≡ part_count x.kind) }
+        ensures { (t : Subtree) (left : List Fragment) (x : Fragment)
+            → IsPlacing t (left ++ x ∷ []) self.old → count ≡ part_count x.kind
+            → IfOk result (λ n. IsAtNode t left x n self.new) }
+    {
+        let size = self.sizes.pop().unwrap();
+        let n = self.pending.pop().unwrap();
+        find_parts(&mut self.parts, self.sizes.as_slice(), n + size, count)?;
+        Ok(n)
+    }
+
+    /// The lists, where each fragment is placed.
+    pub(crate) fn into_tree(self) -> Tree
+        ensures { (t : Subtree) → IsPlacing t [] self
+            → (result.nodes ≡ nodes_of 0 t) × (result.at ≡ offsets_of t) }
+    {
+        let Placing { nodes, at, .. } = self;
+        Tree {
+            nodes: TreeNodes::from_vec(nodes),
+            at: Names::from_vec(at),
+        }
+    }
+}
+
+/// So many nodes, each of which is `0`.
+fn nils(alloc: Global, count: usize) -> Result<Vec<TreeNode>, NoMemory>
+    ensures { IfOk result (λ nodes. nodes.items ≡ replicate count Nil) }
+{
+    let mut nodes = Vec::with_capacity(alloc, count)?;
+    for _ in 0..count {
+        nodes.push(TreeNode::Nil)?;
+    }
+    Ok(nodes)
+}
