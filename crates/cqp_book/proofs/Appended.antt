@@ -26,9 +26,11 @@ use Rattle.cqp_book.proofs.Kept.{keys_in, owned, moved}
 use Rattle.cqp_book.proofs.Sealed.{none_some, run_after, same_cell, current_after, touches}
 
 module _ {O F C E : Type 0} (m : Meaning O F C E) where
+  -- what a seat knows
   abbrev V : Type 0
   V = View O C E
 
+  -- a state of the table
   abbrev St : Type 0
   St = State (Unit {0}) V
 
@@ -39,9 +41,9 @@ module _ {O F C E : Type 0} (m : Meaning O F C E) where
   none_has o s id es ps r k dead j (OfHold o' k' c) at = let fit = r.each j (OfHold o' k' c) at in dite (ℕ_discrete k k')
       (λ e. absurd (none_some (sym dead ∙ (ap (cell_after m o es) e ∙ fit.1))))
       (λ n. rw (ne_eqb k k' n) refl)
-  none_has o s id es ps r k dead j (OfBook o' es' ps') at =
-      let fit = r.each j (OfBook o' es' ps') at in
-      let same : OfBook o es ps ≡ OfBook o' es' ps' = some-injective _ _ (sym r.book ∙ (ap (get_elem? s.views) (sym fit.0) ∙ at)) in
+  none_has o s id es ps r k dead j (OfBook o' t es' ps') at =
+      let fit = r.each j (OfBook o' t es' ps') at in
+      let same : OfBook o o es ps ≡ OfBook o' t es' ps' = some-injective _ _ (sym r.book ∙ (ap (get_elem? s.views) (sym fit.0) ∙ at)) in
       dite (ℕ_discrete (count k ps') 0)
       (λ none. none)
       (λ some_there.
@@ -50,15 +52,17 @@ module _ {O F C E : Type 0} (m : Meaning O F C E) where
 
   module _ (lawful : IsLawful m) {e : E} {o : O} {es : List E} {ps : List (ℕ × C)} (can : CanAppend m e o es ps) (s : St) (id : ℕ)
       (r : KeptAt m o s id es ps) where
+    -- the keys that the event touches
     abbrev keys : List ℕ
     keys = touched m o (front_after m o es) e
 
+    -- the book's pairs afterwards
     abbrev after : List (ℕ × C)
     after = sealed m o es ps e
 
     -- the book's view afterwards
     abbrev new : V
-    new = OfBook o (es ++ e ∷ []) after
+    new = OfBook o o (es ++ e ∷ []) after
 
     -- a key that the event touches is with the book, or not live
     known : (k : ℕ) → has k keys ≡ true → ((c : C) × (find ps k ≡ Some c)) ⊎ (cell_after m o es k ≡ None)
@@ -69,7 +73,7 @@ module _ {O F C E : Type 0} (m : Meaning O F C E) where
     not_held j o' k c n at h = ⊎_elim
         (λ (t : (d : C) × (find ps k ≡ Some d)).
         let mine = find_counts ps k t.0 t.1 in
-        let two = two_within_total (keys_in m k) s.views id j (OfBook o es ps) (OfHold o' k c) (λ p. n (sym p)) r.book at in
+        let two = two_within_total (keys_in m k) s.views id j (OfBook o o es ps) (OfHold o' k c) (λ p. n (sym p)) r.book at in
         let one = r.apart k in
         let here : keys_in m k (OfHold o' k c) ≡ 1 = rw (eq-eqb k k refl) refl in
         omega arith)
@@ -79,7 +83,7 @@ module _ {O F C E : Type 0} (m : Meaning O F C E) where
     -- so it keeps its cell
     stays : (j : ℕ) (v : V) → j ≢ id → get_elem? s.views j ≡ some v → Fits m o id es j v → Fits m o id (es ++ e ∷ []) j v
     stays j Spent n at fit = tt
-    stays j (OfBook o' es' ps') n at fit = fit
+    stays j (OfBook o' t es' ps') n at fit = fit
     stays j (OfHold o' k c) n at fit = (
       fit.0,
       ⊎_elim
@@ -91,7 +95,7 @@ module _ {O F C E : Type 0} (m : Meaning O F C E) where
     -- no key stands twice
     apart_after : (k : ℕ) → total (keys_in m k) (set s.views id new) ≤ 1
     apart_after k =
-        let t = total-set (keys_in m k) s.views id (OfBook o es ps) new r.book in
+        let t = total-set (keys_in m k) s.views id (OfBook o o es ps) new r.book in
         let one = r.apart k in
         let gives = m.after o (front_after m o es) (find ps) e in ⊎_elim
         (λ (h : has k keys ≡ true). let few = count-put_all_in gives keys ps k h in ⊎_elim
@@ -121,18 +125,19 @@ module _ {O F C E : Type 0} (m : Meaning O F C E) where
       → Allows (Kept m o) slots id (v, cs) 0 (λ n. (n + 1) % 2 ^ 64) (Appends m said (step slots 0 1 0 none) (v, cs))
   appends lawful slots id o Spent cs e said told ready s r _ at _ = absurd ready
   appends lawful slots id o (OfHold o' k c) cs e said told ready s r _ at _ = absurd ready
-  appends lawful slots id o (OfBook o' es ps) cs e said told ready s r _ at _ =
-      let mine = owned m o s r id o' es ps at in
+  appends lawful slots id o (OfBook o' t es ps) cs e said told ready s r _ at _ =
+      let mine = owned m o s r id o' t es ps at in
       let now : set s.words 0 (more s) ≡ (length es + 1) ∷ [] =
-      ap (λ (l : List ℕ). set l 0 ((get_or l 0 0 + 1) % 2 ^ 64)) mine.1.word ∙ ap (λ (n : ℕ). n ∷ []) (mod-eq_of_lt ready.short) in (
-        appended m (Some e) (OfBook o' es ps),
+      ap (λ (l : List ℕ). set l 0 ((get_or l 0 0 + 1) % 2 ^ 64)) mine.2.word ∙ ap (λ (n : ℕ). n ∷ []) (mod-eq_of_lt ready.short) in (
+        appended m (Some e) (OfBook o' t es ps),
         keeps,
         tt,
-        subst (λ (x : O). Kept m x (stepped s 0 (more s) id cs (appended m (Some e) (OfBook o' es ps)) keeps)) mine.0 record {
-          seat = id;
-          seen = es ++ e ∷ [];
-          pairs = sealed m o' es ps e;
-          is = append_at lawful ready s id mine.1 (set s.words 0 (more s)) now;
-        },
-        ap (λ (x : Option E). (appended m x (OfBook o' es ps), cs)) (sym told),
+        subst (λ (x : O × O). Kept m x.0 (stepped s 0 (more s) id cs (appended m (Some e) (OfBook o' x.1 es ps)) keeps))
+            (λ i. (mine.0 i, sym mine.1 i)) record {
+              seat = id;
+              seen = es ++ e ∷ [];
+              pairs = sealed m o' es ps e;
+              is = append_at lawful ready s id mine.2 (set s.words 0 (more s)) now;
+            },
+        ap (λ (x : Option E). (appended m x (OfBook o' t es ps), cs)) (sym told),
       )

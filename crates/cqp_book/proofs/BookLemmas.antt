@@ -31,6 +31,7 @@ none_of None h = refl
 none_of (Some d) h = absurd (h d refl)
 
 module _ {O F C E : Type 0} (m : Meaning O F C E) where
+  -- a seat, as contracts see it
   abbrev Sat : Type 0
   Sat = Me (Unit {0}) (View O C E)
 
@@ -59,19 +60,43 @@ module _ {O F C E : Type 0} (m : Meaning O F C E) where
   pub find_start : (me : Sat) (o : O) → me ≡ (at_start m o, []) → (k : ℕ) → find (pairs_of me.0) k ≡ find (m.cells o) k
   find_start me o view k = ap (λ (x : Sat). find (pairs_of x.0) k) view ∙ find-distinct (m.cells o) k
 
-  -- what a look tells after a hold was taken in
+  -- what a look tells after a hold was taken in: its cell is the history's, its key wasn't with the book, and its opening is the book's
   pub learned : {me me' hold : Sat} {o o' : O} {es : List E} {ps : List (ℕ × C)} {cs cs' : List (ℕ × Unit {0})} {k : ℕ} {c : C}
-      → me ≡ (OfBook o es ps, cs) → hold ≡ (OfHold o' k c, cs') → me' ≡ (joined me.0 hold.0, me.1) → (n : ℕ) × Knows m n me'.0
-      → (cell_after m o es k ≡ Some c) × (find ps k ≡ None)
+      → me ≡ (OfBook o o es ps, cs) → hold ≡ (OfHold o' k c, cs') → me' ≡ (joined me.0 hold.0, me.1) → (n : ℕ) × Knows m n me'.0
+      → (cell_after m o es k ≡ Some c) × (find ps k ≡ None) × (o' ≡ o)
   learned {me} {me'} {hold} {o} {o'} {es} {ps} {cs} {cs'} {k} {c} of_book of_hold taken known =
-      let is : me'.0 ≡ OfBook o es ((k, c) ∷ ps) = ap (λ (x : Sat). x.0) taken ∙ (λ i. joined (of_book i).0 (of_hold i).0) in
+      let is : me'.0 ≡ OfBook o o' es ((k, c) ∷ ps) = ap (λ (x : Sat). x.0) taken ∙ (λ i. joined (of_book i).0 (of_hold i).0) in
       let told = subst (λ (x : View O C E). (n : ℕ) × Knows m n x) is known in
       let head : eqb k k ≡ true = eq-eqb k k refl in
       let one = told.1.3 k in
       let longer : count k ((k, c) ∷ ps) ≡ count k ps + 1 = rw head refl in (
         told.1.2 k c (rw head refl),
         none_of (find ps k) (λ d h. let more = find_counts ps k d h in omega arith),
+        told.1.4,
       )
+
+  -- a book that took a hold in keeps what it is to keep, by what a look tells
+  pub book_adds : {id of : TableId} {o o' : O} {me hold : Sat} {front : F} {events : List E} {room reserve : ℕ} {k : ℕ} {c : C}
+      {cs : List (ℕ × Unit {0})} → IsBook m id o of me front events room reserve → hold ≡ (OfHold o' k c, cs) → (n : ℕ) × Knows m n (joined me.0 hold.0)
+      → IsBook m id o of (joined me.0 hold.0, me.1) front events room reserve
+  book_adds {id} {of} {o} {o'} {me} {hold} {front} {events} {room} {reserve} {k} {c} b of_hold known =
+      let ps : List (ℕ × C) = (k, c) ∷ pairs_of me.0 in
+      let is : (joined me.0 hold.0, me.1) ≡ (OfBook o o' events ps, []) = λ i. (joined (b.view i).0 (of_hold i).0, (b.view i).1) in
+      let told = subst (λ (x : Sat). (n : ℕ) × Knows m n x.0) is known in
+      let whole = is ∙ ap (λ (x : O). (OfBook o x events ps, [])) told.1.4 in
+      subst (λ (v : Sat). IsBook m id o of v front events room reserve) (sym whole) record {
+        table = b.table;
+        one_word = b.one_word;
+        no_slot = b.no_slot;
+        view = refl;
+        front_is = b.front_is;
+        run = told.1.1;
+        current = told.1.2;
+        single = told.1.3;
+        roomy = b.roomy;
+        within = b.within;
+        small = b.small;
+      }
 
   -- a book that gave a key keeps what it is to keep
   pub book_gives : {id of : TableId} {o : O} {me : Sat} {front : F} {events : List E} {room reserve : ℕ} (key : ℕ)
@@ -96,7 +121,7 @@ module _ {O F C E : Type 0} (m : Meaning O F C E) where
       }
 
   -- what is found in a book that gave a key
-  pub find_given : (me : Sat) (o : O) (events : List E) (key : ℕ) → me ≡ (OfBook o events (pairs_of me.0), [])
+  pub find_given : (me : Sat) (o : O) (events : List E) (key : ℕ) → me ≡ (OfBook o o events (pairs_of me.0), [])
       → (k : ℕ) → find (pairs_of (kept_back (Some key) me.0)) k ≡ cond (eqb k key) None (find (pairs_of me.0) k)
   find_given me o events key view k = ap (λ (x : Sat). find (pairs_of (kept_back (Some key) x.0)) k) view ∙ dite (ℕ_discrete k key)
       (λ e. rw (eq-eqb k key e) (find-without_same key k (pairs_of me.0) e))
@@ -104,6 +129,7 @@ module _ {O F C E : Type 0} (m : Meaning O F C E) where
 
   module _ (lawful : IsLawful m) {id of : TableId} {o : O} {me : Sat} {front : F} {events : List E} {room reserve : ℕ} {e : E}
       (b : IsBook m id o of me front events room reserve) (can : CanAppend m e o events (pairs_of me.0)) where
+    -- the book's pairs
     abbrev ps : List (ℕ × C)
     ps = pairs_of me.0
 

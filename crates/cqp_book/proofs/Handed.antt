@@ -23,9 +23,11 @@ use Rattle.cqp_book.proofs.Kept.{keys_in, owned}
 use Rattle.cqp_book.proofs.Sealed.{none_some}
 
 module _ {O F C E : Type 0} (m : Meaning O F C E) where
+  -- what a seat knows
   abbrev V : Type 0
   V = View O C E
 
+  -- a state of the table
   abbrev St : Type 0
   St = State (Unit {0}) V
 
@@ -37,19 +39,22 @@ module _ {O F C E : Type 0} (m : Meaning O F C E) where
 
   -- the book's view is written over, and others stay
   each_set : (o : O) (s : St) (id : ℕ) (es : List E) (ps ps' : List (ℕ × C)) → KeptAt m o s id es ps
-      → (j : ℕ) (v : V) → get_elem? (set s.views id (OfBook o es ps')) j ≡ some v → Fits m o id es j v
+      → (j : ℕ) (v : V) → get_elem? (set s.views id (OfBook o o es ps')) j ≡ some v → Fits m o id es j v
   each_set o s id es ps ps' r j v e = ⊎_elim
-      (λ (t : (j ≡ id) × (OfBook o es ps' ≡ v)). subst (Fits m o id es j) t.1 (t.0, refl))
+      (λ (t : (j ≡ id) × (OfBook o o es ps' ≡ v)). subst (Fits m o id es j) t.1 (t.0, refl))
       (λ (t : (j ≢ id) × (get_elem? s.views j ≡ some v)). r.each j v t.1)
-      (at_set s.views id j (OfBook o es ps') v e)
+      (at_set s.views id j (OfBook o o es ps') v e)
 
   module _ (o : O) (s : St) (id : ℕ) (es : List E) (ps : List (ℕ × C)) (r : KeptAt m o s id es ps) (key : ℕ) (c : C) where
+    -- the book's view without the key
     abbrev left : V
-    left = OfBook o es (without key ps)
+    left = OfBook o o es (without key ps)
 
+    -- the hold's view
     abbrev right : V
     right = OfHold o key c
 
+    -- all views but the hold's, afterwards
     abbrev lent : List V
     lent = set s.views id left
 
@@ -57,7 +62,7 @@ module _ {O F C E : Type 0} (m : Meaning O F C E) where
     apart_split : find ps key ≡ Some c → (k : ℕ) → total (keys_in m k) (lent ++ right ∷ []) ≤ 1
     apart_split there k =
         let all = total-snoc (keys_in m k) lent right in
-        let book = total-set (keys_in m k) s.views id (OfBook o es ps) left r.book in
+        let book = total-set (keys_in m k) s.views id (OfBook o o es ps) left r.book in
         let one = r.apart k in dite (ℕ_discrete k key)
         (λ e.
         let none_left = count-without_same key k ps e in
@@ -73,7 +78,7 @@ module _ {O F C E : Type 0} (m : Meaning O F C E) where
     split_at : find ps key ≡ Some c → KeptAt m o record { words = s.words; homes = s.homes; views = lent ++ right ∷ [] } id es (without key ps)
     split_at there = record {
       word = r.word;
-      book = at_longer lent (right ∷ []) id left (get_set s.views id (OfBook o es ps) left r.book);
+      book = at_longer lent (right ∷ []) id left (get_set s.views id (OfBook o o es ps) left r.book);
       run = r.run;
       current = current_without o es ps key r.current;
       each = λ j v e. ⊎_elim
@@ -84,9 +89,11 @@ module _ {O F C E : Type 0} (m : Meaning O F C E) where
     }
 
     module _ (other : ℕ) (o' : O) (apart : other ≢ id) (at : get_elem? s.views other ≡ some (OfHold o' key c)) where
+      -- the book's view with the pair
       abbrev both : V
-      both = OfBook o es ((key, c) ∷ ps)
+      both = OfBook o o es ((key, c) ∷ ps)
 
+      -- all views, before the hold's is spent
       abbrev taken : List V
       taken = set s.views id both
 
@@ -104,7 +111,7 @@ module _ {O F C E : Type 0} (m : Meaning O F C E) where
       apart_join : (k : ℕ) → total (keys_in m k) (set taken other Spent) ≤ 1
       apart_join k =
           let spent = total-set (keys_in m k) taken other (OfHold o' key c) Spent still in
-          let book = total-set (keys_in m k) s.views id (OfBook o es ps) both r.book in
+          let book = total-set (keys_in m k) s.views id (OfBook o o es ps) both r.book in
           let one = r.apart k in dite (ℕ_discrete k key)
           (λ e.
           let more : keys_in m k both ≡ count k ps + 1 = rw (eq-eqb k key e) refl in
@@ -119,7 +126,7 @@ module _ {O F C E : Type 0} (m : Meaning O F C E) where
       join_at : KeptAt m o record { words = s.words; homes = s.homes; views = set taken other Spent } id es ((key, c) ∷ ps)
       join_at = record {
         word = r.word;
-        book = set_else taken other id Spent (λ e. apart (sym e)) ∙ get_set s.views id (OfBook o es ps) both r.book;
+        book = set_else taken other id Spent (λ e. apart (sym e)) ∙ get_set s.views id (OfBook o o es ps) both r.book;
         run = r.run;
         current = current_with;
         each = λ j v e. ⊎_elim
@@ -131,22 +138,24 @@ module _ {O F C E : Type 0} (m : Meaning O F C E) where
 
   -- the book's seat may split off a key that it has
   pub splits : (id : ℕ) (o : O) (v : V) (said : Option ℕ) (key : ℕ) → said ≡ Some key → (o' : O) (es : List E) (ps : List (ℕ × C)) (c : C)
-      → v ≡ OfBook o' es ps → find ps key ≡ Some c → Splits {S = Unit {0}} (Kept m o) id v (kept_back said v) (given said v)
+      → v ≡ OfBook o' o' es ps → find ps key ≡ Some c → Splits {S = Unit {0}} (Kept m o) id v (kept_back said v) (given said v)
   splits id o v said key told o' es ps c is there s r at =
-      let h = owned m o s r id o' es ps (at ∙ ap some is) in
-      let book : kept_back said v ≡ OfBook o' es (without key ps) = λ i. kept_back (told i) (is i) in
+      let h = owned m o s r id o' o' es ps (at ∙ ap some is) in
+      let book : kept_back said v ≡ OfBook o' o' es (without key ps) = λ i. kept_back (told i) (is i) in
       let hold : given said v ≡ OfHold o' key c = (λ i. given (told i) (is i)) ∙ ap (held o' key) there in
       subst (λ (t : O × (V × V)). Kept m t.0 record { words = s.words; homes = s.homes; views = set s.views id t.1.0 ++ t.1.1 ∷ [] })
       (λ i. (h.0 i, (sym book i, sym hold i)))
-      record { seat = id; seen = es; pairs = without key ps; is = split_at o' s id es ps h.1 key c there }
+      record { seat = id; seen = es; pairs = without key ps; is = split_at o' s id es ps h.2 key c there }
 
   -- the book's seat may take in a hold's
   pub joins : (id : ℕ) (o : O) (v : V) (other : ℕ) (w : V) (o' : O) (es : List E) (ps : List (ℕ × C)) (o'' : O) (key : ℕ) (c : C)
-      → v ≡ OfBook o' es ps → w ≡ OfHold o'' key c → Joins {S = Unit {0}} (Kept m o) id v other w (joined v w) Spent
+      → v ≡ OfBook o' o' es ps → w ≡ OfHold o'' key c → Joins {S = Unit {0}} (Kept m o) id v other w (joined v w) Spent
   joins id o v other w o' es ps o'' key c is is' s r at apart there =
-      let h = owned m o s r id o' es ps (at ∙ ap some is) in
-      let book : joined v w ≡ OfBook o' es ((key, c) ∷ ps) = λ i. joined (is i) (is' i) in
+      let h = owned m o s r id o' o' es ps (at ∙ ap some is) in
       let at' : get_elem? s.views other ≡ some (OfHold o'' key c) = sym (set_else s.views id other (joined v w) apart) ∙ (there ∙ ap some is') in
+      let fit = h.2.each other (OfHold o'' key c) at' in
+      let book : joined v w ≡ OfBook o' o' es ((key, c) ∷ ps) =
+      (λ i. joined (is i) (is' i)) ∙ ap (λ (x : O). OfBook o' x es ((key, c) ∷ ps)) fit.0 in
       subst (λ (t : O × V). Kept m t.0 record { words = s.words; homes = s.homes; views = set (set s.views id t.1) other Spent })
       (λ i. (h.0 i, sym book i))
-      record { seat = id; seen = es; pairs = (key, c) ∷ ps; is = join_at o' s id es ps h.1 key c other o'' apart at' }
+      record { seat = id; seen = es; pairs = (key, c) ∷ ps; is = join_at o' s id es ps h.2 key c other o'' apart at' }

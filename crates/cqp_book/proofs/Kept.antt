@@ -18,9 +18,11 @@ use Rattle.cqp_book.proofs.PairLemmas.{count-distinct, find-distinct}
 use Rattle.cqp_book.proofs.ViewLemmas.{get_set, one_within_total}
 
 module _ {O F C E : Type 0} (m : Meaning O F C E) where
+  -- what a seat knows
   abbrev V : Type 0
   V = View O C E
 
+  -- a state of the table
   abbrev St : Type 0
   St = State (Unit {0}) V
 
@@ -28,21 +30,30 @@ module _ {O F C E : Type 0} (m : Meaning O F C E) where
   abbrev pub keys_in : ℕ → V → ℕ
   keys_in k v = count k (pairs_of v)
 
-  -- a seat that has a book's view is the book's, with what it has seen and found
-  owned_at : (o : O) (s : St) (r : Kept m o s) (id : ℕ) (o' : O) (es : List E) (ps : List (ℕ × C)) → get_elem? s.views id ≡ some (OfBook o' es ps)
-      → (o' ≡ o) × KeptAt m o s id es ps
-  owned_at o s r id o' es ps at =
-      let fit = r.is.each id (OfBook o' es ps) at in
-      let same : OfBook o r.seen r.pairs ≡ OfBook o' es ps =
-      some-injective _ _ (sym r.is.book ∙ (ap (get_elem? s.views) (sym fit.0) ∙ at)) in
-      (fit.1, subst (λ (t : ℕ × V). KeptAt m o s t.0 (seen_of t.1) (pairs_of t.1)) (λ i. (sym fit.0 i, same i)) r.is)
+  -- the opening that a book's view says of the hold taken in last, and o of other views
+  abbrev told_of : O → V → O
+  told_of o Spent = o
+  told_of o (OfBook o' t es ps) = t
+  told_of o (OfHold o' k c) = o
+
+  -- a seat that has a book's view is the book's, with what it has seen and found, and one opening
+  owned_at : (o : O) (s : St) (r : Kept m o s) (id : ℕ) (o' t : O) (es : List E) (ps : List (ℕ × C))
+      → get_elem? s.views id ≡ some (OfBook o' t es ps) → (o' ≡ o) × (t ≡ o) × KeptAt m o s id es ps
+  owned_at o s r id o' t es ps at =
+      let fit = r.is.each id (OfBook o' t es ps) at in
+      let same : OfBook o o r.seen r.pairs ≡ OfBook o' t es ps =
+      some-injective _ _ (sym r.is.book ∙ (ap (get_elem? s.views) (sym fit.0) ∙ at)) in (
+        fit.1,
+        sym (ap (told_of o) same),
+        subst (λ (x : ℕ × V). KeptAt m o s x.0 (seen_of x.1) (pairs_of x.1)) (λ i. (sym fit.0 i, same i)) r.is,
+      )
 
   -- the same, with the opening as the view has it
-  pub owned : (o : O) (s : St) (r : Kept m o s) (id : ℕ) (o' : O) (es : List E) (ps : List (ℕ × C)) → get_elem? s.views id ≡ some (OfBook o' es ps)
-      → (o' ≡ o) × KeptAt m o' s id es ps
-  owned o s r id o' es ps at =
-      let h = owned_at o s r id o' es ps at in
-      (h.0, subst (λ (x : O). KeptAt m x s id es ps) (sym h.0) h.1)
+  pub owned : (o : O) (s : St) (r : Kept m o s) (id : ℕ) (o' t : O) (es : List E) (ps : List (ℕ × C))
+      → get_elem? s.views id ≡ some (OfBook o' t es ps) → (o' ≡ o) × (t ≡ o') × KeptAt m o' s id es ps
+  owned o s r id o' t es ps at =
+      let h = owned_at o s r id o' t es ps at in
+      (h.0, h.1 ∙ sym h.0, subst (λ (x : O). KeptAt m x s id es ps) (sym h.0) h.2)
 
   -- where there is one view, what fits it fits all
   only : (o : O) (w : V) (j : ℕ) (v : V) → Fits m o 0 [] 0 w → get_elem? (w ∷ []) j ≡ some v → Fits m o 0 [] j v
@@ -69,17 +80,17 @@ module _ {O F C E : Type 0} (m : Meaning O F C E) where
   pub moved : (o : O) (s : St) (id : ℕ) (es : List E) (ps : List (ℕ × C)) → KeptAt m o s id es ps → (es' : List E) (ps' : List (ℕ × C)) (ws : List ℕ)
       → ws ≡ length es' ∷ [] → IsRun m o es' → AreCurrent m o es' ps'
       → ((j : ℕ) (v : V) → j ≢ id → get_elem? s.views j ≡ some v → Fits m o id es' j v)
-      → ((k : ℕ) → total (keys_in k) (set s.views id (OfBook o es' ps')) ≤ 1)
-      → KeptAt m o record { words = ws; homes = s.homes; views = set s.views id (OfBook o es' ps') } id es' ps'
+      → ((k : ℕ) → total (keys_in k) (set s.views id (OfBook o o es' ps')) ≤ 1)
+      → KeptAt m o record { words = ws; homes = s.homes; views = set s.views id (OfBook o o es' ps') } id es' ps'
   moved o s id es ps r es' ps' ws word run current others apart = record {
     word = word;
-    book = get_set s.views id (OfBook o es ps) (OfBook o es' ps') r.book;
+    book = get_set s.views id (OfBook o o es ps) (OfBook o o es' ps') r.book;
     run = run;
     current = current;
     each = λ j v e. ⊎_elim
-        (λ (t : (j ≡ id) × (OfBook o es' ps' ≡ v)). subst (Fits m o id es' j) t.1 (t.0, refl))
+        (λ (t : (j ≡ id) × (OfBook o o es' ps' ≡ v)). subst (Fits m o id es' j) t.1 (t.0, refl))
         (λ (t : (j ≢ id) × (get_elem? s.views j ≡ some v)). others j v t.0 t.1)
-        (at_set s.views id j (OfBook o es' ps') v e);
+        (at_set s.views id j (OfBook o o es' ps') v e);
     apart = apart;
   }
 
@@ -94,11 +105,12 @@ module _ {O F C E : Type 0} (m : Meaning O F C E) where
   knows : (o : O) (s : St) (r : Kept m o s) (id : ℕ) (v : V) → get_elem? s.views id ≡ some v → Knows m (get_or s.words 0 0) v
   knows o s r id Spent at = tt
   knows o s r id (OfHold o' k c) at = tt
-  knows o s r id (OfBook o' es ps) at = let h = (owned o s r id o' es ps at).1 in (
+  knows o s r id (OfBook o' t es ps) at = let mine = owned o s r id o' t es ps at in let h = mine.2 in (
     ap (λ (l : List ℕ). get_or l 0 0) h.word,
     h.run,
     h.current,
-    λ k. let here = one_within_total (keys_in k) s.views id (OfBook o' es ps) at in let all = h.apart k in omega arith,
+    λ k. let here = one_within_total (keys_in k) s.views id (OfBook o' t es ps) at in let all = h.apart k in omega arith,
+    mine.1,
   )
 
   -- a look keeps the rule and tells it
@@ -106,6 +118,6 @@ module _ {O F C E : Type 0} (m : Meaning O F C E) where
   looks slots id o me s r _ at _ = (me.0, keeps, tt, unmoved o s 0 id me.0 me.1 at r, (refl, knows o s r id me.0 at))
 
   -- at the end the word is the number of the events that the book has seen
-  pub closes : (id : ℕ) (o : O) (v : V) (o' : O) (es : List E) (ps : List (ℕ × C)) (ws : List ℕ) (xs : List (Unit {0})) → v ≡ OfBook o' es ps
+  pub closes : (id : ℕ) (o : O) (v : V) (o' : O) (es : List E) (ps : List (ℕ × C)) (ws : List ℕ) (xs : List (Unit {0})) → v ≡ OfBook o' o' es ps
       → Final (Seen (Kept m o) id v) ws xs → ws ≡ length es ∷ []
-  closes id o v o' es ps ws xs is final = sym final.2 ∙ (owned o final.0 final.1.0 id o' es ps (final.1.1 ∙ ap some is)).1.word
+  closes id o v o' es ps ws xs is final = sym final.2 ∙ (owned o final.0 final.1.0 id o' o' es ps (final.1.1 ∙ ap some is)).2.word

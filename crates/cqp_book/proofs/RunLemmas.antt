@@ -26,8 +26,10 @@ module _ {O F C E : Type 0} (m : Meaning O F C E) (o : O) where
   pub front_after-snoc : (es : List E) (e : E) → front_after m o (es ++ e ∷ []) ≡ m.next (front_after m o es) e
   front_after-snoc es e = front_from-snoc (m.front o) es e
 
+  -- the cells after the history are moved on by the last event
   pub cell_after-snoc : (es : List E) (e : E) → cell_after m o (es ++ e ∷ []) ≡ m.after o (front_after m o es) (cell_after m o es) e
   cell_after-snoc es e = store_from-snoc (m.front o) (find (m.cells o)) es e
 
+  -- a history goes on by an event that is enabled after it
   pub run_snoc : (es : List E) (e : E) → IsRun m o es → m.Enabled o (front_after m o es) (cell_after m o es) e → IsRun m o (es ++ e ∷ [])
   run_snoc es e run enabled = runs_from_snoc (m.front o) (find (m.cells o)) es e run enabled

@@ -24,9 +24,11 @@ value_of (Some c) h = (c, refl)
 
 module _ {O F C E : Type 0} (m : Meaning O F C E) (lawful : IsLawful m) {e : E} {o : O} {es : List E} {ps : List (ℕ × C)}
     (can : CanAppend m e o es ps) (current : AreCurrent m o es ps) (run : IsRun m o es) where
+  -- the front that the event comes on
   abbrev front : F
   front = front_after m o es
 
+  -- the keys that it touches
   abbrev keys : List ℕ
   keys = touched m o front e
 

@@ -20,7 +20,7 @@ pub record IsBook {O F C E : Type 0} (m : Meaning O F C E) (id : TableId) (o : O
   pub table : of ≡ id
   pub one_word : id.words ≡ 1
   pub no_slot : id.slots ≡ 0
-  pub view : me ≡ (OfBook o events (pairs_of me.0), [])
+  pub view : me ≡ (OfBook o o events (pairs_of me.0), [])
   pub front_is : front ≡ front_after m o events
   pub run : IsRun m o events
   pub current : AreCurrent m o events (pairs_of me.0)
@@ -38,11 +38,11 @@ module _ {O C E : Type 0} where
   -- it is so in one way at most
   pub hold_prop : (v : View O C E) → IsProp (IsHold v)
   hold_prop Spent = ⊥_prop
-  hold_prop (OfBook o es ps) = ⊥_prop
+  hold_prop (OfBook o t es ps) = ⊥_prop
   hold_prop (OfHold o k c) = Unit-prop
 
   -- what contracts see of a hold whose seat is of this table
   abbrev pub holding : TableId → (v : View O C E) → IsHold v → Holding O C
   holding id (OfHold o k c) is = record { identity = id; opening = o; key = k; cell = c }
   holding id Spent is = absurd is
-  holding id (OfBook o es ps) is = absurd is
+  holding id (OfBook o t es ps) is = absurd is

@@ -8,4 +8,3 @@ pub mod Views
 pub mod Rule
 pub mod Steps
 pub mod Inside
-pub mod Counter

@@ -15,7 +15,7 @@ module _ {O F C E : Type 0} (m : Meaning O F C E) where
   -- cell is what they give
   abbrev pub Fits : O → ℕ → List E → ℕ → View O C E → Type 0
   Fits o seat seen j Spent = Unit {0}
-  Fits o seat seen j (OfBook o' es ps) = (j ≡ seat) × (o' ≡ o)
+  Fits o seat seen j (OfBook o' t es ps) = (j ≡ seat) × (o' ≡ o)
   Fits o seat seen j (OfHold o' k c) = (o' ≡ o) × (cell_after m o seen k ≡ Some c)
 
   -- The seat is the book's. It has seen a run, whose length is the word, and its cells are what
@@ -24,7 +24,7 @@ module _ {O F C E : Type 0} (m : Meaning O F C E) where
   pub record KeptAt (o : O) (s : State (Unit {0}) (View O C E)) (seat : ℕ) (seen : List E)
       (pairs : List (ℕ × C)) : Type 0 where
     pub word : s.words ≡ length seen ∷ []
-    pub book : get_elem? s.views seat ≡ some (OfBook o seen pairs)
+    pub book : get_elem? s.views seat ≡ some (OfBook o o seen pairs)
     pub run : IsRun m o seen
     pub current : AreCurrent m o seen pairs
     pub each : (j : ℕ) (v : View O C E) → get_elem? s.views j ≡ some v → Fits o seat seen j v
@@ -39,4 +39,4 @@ module _ {O F C E : Type 0} (m : Meaning O F C E) where
 
   -- the book's first view
   abbrev pub at_start : O → View O C E
-  at_start o = OfBook o [] (distinct (m.cells o))
+  at_start o = OfBook o o [] (distinct (m.cells o))

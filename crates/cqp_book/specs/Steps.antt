@@ -17,7 +17,7 @@ module _ {O F C E : Type 0} (m : Meaning O F C E) where
 
   -- what the book's view becomes by an event
   abbrev pub appended : Option E → View O C E → View O C E
-  appended (Some e) (OfBook o es ps) = OfBook o (es ++ e ∷ []) (sealed o es ps e)
+  appended (Some e) (OfBook o t es ps) = OfBook o t (es ++ e ∷ []) (sealed o es ps e)
   appended _ v = v
 
   -- an event that the book may append: enabled on its pairs, among which are those that it needs
@@ -28,13 +28,13 @@ module _ {O F C E : Type 0} (m : Meaning O F C E) where
 
   -- the same, of a view
   abbrev pub IsReady : E → View O C E → Type 0
-  IsReady e (OfBook o es ps) = CanAppend e o es ps
+  IsReady e (OfBook o t es ps) = CanAppend e o es ps
   IsReady e _ = ⊥
 
-  -- what the book knows once it finds n in the word
+  -- what the book knows once it finds n in the word, that of the last hold's opening included
   abbrev pub Knows : ℕ → View O C E → Type 0
-  Knows n (OfBook o es ps) =
-      (n ≡ length es) × IsRun m o es × AreCurrent m o es ps × ((k : ℕ) → count k ps ≤ 1)
+  Knows n (OfBook o t es ps) =
+      (n ≡ length es) × IsRun m o es × AreCurrent m o es ps × ((k : ℕ) → count k ps ≤ 1) × (t ≡ o)
   Knows n _ = Unit {0}
 
   -- what the step that appends tells: the event is at the end
@@ -50,7 +50,7 @@ module _ {O F C E : Type 0} (m : Meaning O F C E) where
 module _ {O C E : Type 0} where
   -- the book's view once the key is split off
   abbrev pub kept_back : Option ℕ → View O C E → View O C E
-  kept_back (Some k) (OfBook o es ps) = OfBook o es (without k ps)
+  kept_back (Some k) (OfBook o t es ps) = OfBook o t es (without k ps)
   kept_back _ v = v
 
   -- a hold's view, where there is a cell
@@ -60,10 +60,10 @@ module _ {O C E : Type 0} where
 
   -- the new seat's view, which has the key that is split off
   abbrev pub given : Option ℕ → View O C E → View O C E
-  given (Some k) (OfBook o es ps) = held o k (find ps k)
+  given (Some k) (OfBook o t es ps) = held o k (find ps k)
   given _ v = Spent
 
-  -- the book's view once it took in a hold's
+  -- the book's view once it took in a hold's, whose opening it remembers
   abbrev pub joined : View O C E → View O C E → View O C E
-  joined (OfBook o es ps) (OfHold o' k c) = OfBook o es ((k, c) ∷ ps)
+  joined (OfBook o t es ps) (OfHold o' k c) = OfBook o o' es ((k, c) ∷ ps)
   joined v w = v

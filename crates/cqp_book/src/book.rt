@@ -106,11 +106,12 @@ impl<M: Machine> Book<M> {
         self.refused = true;
     }
 
-    /// Takes a hold in. Its cell turns out to be the history's, whatever was sealed since it was
-    /// given, and its key not to have been with the book.
+    /// Takes a hold in. Its opening turns out to be the book's, its cell to be the history's,
+    /// whatever was sealed since it was given, and its key not to have been with the book.
     pub fn add(&mut self, hold: Hold<M>)
         requires open { self.old.refused ≡ false }
         requires mine { hold.identity ≡ self.old.identity }
+        ensures opening { hold.opening ≡ self.old.opening }
         ensures current { cell_of M.means self.old hold.key ≡ Some hold.cell }
         ensures apart { find self.old.pairs hold.key ≡ None }
         ensures pairs { (k : ℕ) → find self.new.pairs k

@@ -13,6 +13,3 @@ pub use book::{Book, BookRefused, Deal, NoMemory};
 pub use events::Events;
 pub use hold::Hold;
 pub use machine::Machine;
-
-#[cfg(test)]
-mod tests;

@@ -4,8 +4,9 @@ use std::collections::LinkedList;
 pub enum View<O, C, E> {
     /// Nothing: its pair was taken in.
     Spent,
-    /// The book's: the opening, the events sealed, and the pairs with the book.
-    OfBook(O, LinkedList<E>, LinkedList<(u64, C)>),
+    /// The book's: the opening, the opening that the hold taken in last had (its own, if none
+    /// was), the events sealed, and the pairs with the book.
+    OfBook(O, O, LinkedList<E>, LinkedList<(u64, C)>),
     /// A hold's: the opening, the key and its cell.
     OfHold(O, u64, C),
 }

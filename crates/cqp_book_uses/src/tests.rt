@@ -1,5 +1,5 @@
-use crate::{Counters, Move, add_twice, lose_first, take_both};
-use cqp_book::Book;
+use crate::{Counters, Move, add_twice, give_again, keep_and_refuse, lose_first, take_both};
+use cqp_book::{Book, BookRefused};
 use std::test::Fail;
 
 #[test]
@@ -28,5 +28,24 @@ fn two_holds_are_taken_in(rt: HostRuntime) -> Result<(), Fail> {
     let two = book.give(1);
     take_both(&mut book, one, two);
     assert!(rt; book.history() == [Move::Make].as_slice());
+    Ok(())
+}
+
+#[test]
+fn an_added_hold_is_given_again_after_the_event(rt: HostRuntime) -> Result<(), Fail> {
+    let (book, _hold) = give_again(rt.alloc())?;
+    assert!(rt; book.history() == [Move::Add(0, 1)].as_slice() && *book.front() == 1);
+    assert!(rt; !book.refused() && book.begin().is_ok());
+    let events = book.finish();
+    assert!(rt; events.as_slice() == [Move::Add(0, 1)].as_slice());
+    assert!(rt; events.into_vec().as_slice() == [Move::Add(0, 1)].as_slice());
+    Ok(())
+}
+
+#[test]
+fn a_refused_book_keeps_its_history(rt: HostRuntime) -> Result<(), Fail> {
+    let (book, _hold) = keep_and_refuse(rt.alloc())?;
+    assert!(rt; book.refused() && book.begin() == Err(BookRefused));
+    assert!(rt; book.history() == [Move::Add(0, 1)].as_slice());
     Ok(())
 }

@@ -4,8 +4,10 @@ use Rattle.cqp_ring.specs.declared.amp.Amp.{Amp}
 use Rattle.cqp_ring.specs.declared.weight.Weight.{Weight}
 use Rattle.cqp_ring.specs.Amp.{one_amp}
 use Rattle.cqp_ring.specs.Root.{one_root}
+use Rattle.cqp_syntax.specs.declared.op.Op.{Op}
 use Rattle.cqp_syntax.specs.declared.op.Op.TheVariants as op
-use Rattle.cqp_syntax.specs.Trees.{Process, nil, qbit, act}
+use Rattle.cqp_syntax.specs.declared.val.Val.TheVariants as val
+use Rattle.cqp_syntax.specs.Trees.{Expr, named, apply, value, Process}
 use Rattle.cqp_vector.specs.State.{State}
 use Rattle.cqp_trace.specs.declared.deed.Deed.{Deed}
 use Rattle.cqp_trace.specs.declared.deed.Deed.TheVariants as deed
@@ -14,7 +16,10 @@ use Rattle.cqp_trace.specs.declared.end.End.TheVariants.{Done}
 use Rattle.cqp_trace.specs.declared.trace.Trace.{Trace}
 use Rattle.cqp_cells.specs.Config.{Config}
 use Rattle.cqp_cells.specs.Lawful.{IsLawful}
-use Rattle.cqp_cells.specs.Line.{gate_on_name}
+
+-- a gate on a name
+abbrev pub gate_on_name : Op → ℕ → Expr
+gate_on_name o x = apply (named x ∷ []) (value (val.Gate o))
 
 -- an entry of part i
 abbrev pub by : ℕ → Deed → Entry
@@ -52,9 +57,3 @@ qubit_with x y = record { qubits = 1; nums = x ∷ y ∷ [] }
 -- the last configuration, where both numerators are 1
 abbrev pub one_gate_last : Config
 one_gate_last = record { state = qubit_with one_amp one_amp; chans = 0; made = 1; parts = [] }
-
--- `(qbit a){a *= X}.(qbit b){b *= H}.{a *= H}.0`, which the tests run
-abbrev pub three_gates : Process
-three_gates =
-    qbit 0
-    (act (gate_on_name op.X 0) (qbit 1 (act (gate_on_name op.H 1) (act (gate_on_name op.H 0) nil))))

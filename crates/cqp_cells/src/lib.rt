@@ -1,16 +1,9 @@
-//! Reductions of processes: configurations, paths, lawful traces, and runs that make them.
+//! Reductions of processes: configurations, paths, lawful traces, and laws of exponents, of paths
+//! and of their weights. Each call does nothing, and its contract is the law.
 #![tactic(auto)]
 
 mod examples;
-mod line;
-mod run;
-mod stroke;
-#[cfg(test)]
-mod tests;
+mod laws;
+mod limits;
 
-pub use line::line_run;
-pub use run::Run;
-use std::alloc::AllocError;
-
-/// Want of memory.
-pub type NoMemory = AllocError;
+pub use laws::{exponent_laws, path_laws, weight_laws};

@@ -27,10 +27,12 @@ pub record Laws : Type 0 where
   pub sum : (x y : Root) → IsAtLeastZero x → IsAtLeastZero y → IsAtLeastZero (root_sum x y)
   pub cancelled : (n x y : Root) → n ≢ zero_root → root_product n x ≡ root_product n y → x ≡ y
 
+-- norms whose difference is 0 are the same
 no_difference : (x y : Root) → root_difference y x ≡ zero_root → x ≡ y
 no_difference x y e = let f : y.p -ℤ x.p ≡ pos 0 = ap (λ (t : Root). t.p) e in let g : y.q -ℤ x.q ≡ pos 0 = ap (λ (t : Root). t.q) e in
     same_root (omega (arith, ints)) (omega (arith, ints))
 
+-- the same norms differ by 0
 difference_none : (x y : Root) → x ≡ y → root_difference x y ≡ zero_root
 difference_none x y e =
     let f : x.p ≡ y.p = ap (λ (t : Root). t.p) e in
@@ -43,17 +45,20 @@ rest_parts : (n k : ℕ) (x : Root)
     → root_product (whole_root (pos n)) x ≡ root_difference (root_product (whole_root (pos (n + k))) x) (root_product (whole_root (pos k)) x)
 rest_parts n k x = same_root (omega (arith, ints)) (omega (arith, ints))
 
+-- a number of which some times are 0 is 0
 times_zero : (n : ℕ) (z : ℤ) → 0 < n → pos n *ℤ z ≡ pos 0 → z ≡ pos 0
 times_zero n z some e =
     let f : n * nat_abs z ≡ 0 = sym (unsigned_abs-mul (pos n) z) ∙ ap nat_abs e in
     let g : 1 * nat_abs z ≤ n * nat_abs z = mul-le-mul {n₁ = 1} {m₁ = nat_abs z} {n₂ = n} {m₂ = nat_abs z} some (omega arith) in
     omega (arith, ints)
 
+-- some times a norm that isn't 0 aren't 0
 times_apart : (n : ℕ) (x : Root) → 0 < n → x ≢ zero_root → root_product (whole_root (pos n)) x ≢ zero_root
 times_apart n x some apart e =
     let f = sym (times_parts n x) ∙ e in
     apart (same_root (times_zero n x.p some (ap (λ (t : Root). t.p) f)) (times_zero n x.q some (ap (λ (t : Root). t.q) f)))
 
+-- fewer times a norm above 0 are less
 share_of_rest : ((x y : Root) → IsAtLeastZero x → IsAtLeastZero y → IsAtLeastZero (root_product x y)) → (n k : ℕ) (x : Root) → 0 < n → IsAtLeastZero x
     → x ≢ zero_root
     → IsLess (root_product (whole_root (pos k)) x) (root_product (whole_root (pos (n + k))) x)
@@ -88,6 +93,7 @@ reached_by word odds i total sum e f h =
     subst (λ t. IsLess (root_product (whole_root (pos word)) t) (root_product (whole_root (pos (2 ^ 32))) (root_total (take (i + 1) odds)))) e
     (subst (λ t. IsLess (root_product (whole_root (pos word)) total) (root_product (whole_root (pos (2 ^ 32))) t)) f h)
 
+-- the other way round: a place that is reached passes the comparison
 pub reached_so : (word : ℕ) (odds : List Root) (i : ℕ) (total sum : Root) → total ≡ root_total odds → sum ≡ root_total (take (i + 1) odds)
     → IsReached word odds i → IsLess (root_product (whole_root (pos word)) total) (root_product (whole_root (pos (2 ^ 32))) sum)
 reached_so word odds i total sum e f h =
@@ -96,12 +102,15 @@ reached_so word odds i total sum e f h =
 
 -- ---- proportional odds
 module _ (laws : Laws) where
+  -- any norm times 0 is 0
   product-zero : (x : Root) → root_product x zero_root ≡ zero_root
   product-zero x = same_root (omega (arith, ints)) (omega (arith, ints))
 
+  -- 0 times any norm is 0
   zero-product : (x : Root) → root_product zero_root x ≡ zero_root
   zero-product x = same_root (omega (arith, ints)) (omega (arith, ints))
 
+  -- products distribute from the right, too
   times_sum : (x y z : Root) → root_product (root_sum x y) z ≡ root_sum (root_product x z) (root_product y z)
   times_sum x y z =
       laws.commutes (root_sum x y) z ∙ laws.distributes z x y ∙ ap (λ t. root_sum t (root_product z y)) (laws.commutes z x)
@@ -183,6 +192,7 @@ module _ (laws : Laws) where
       carried (whole_root (pos word)) (whole_root (pos (2 ^ 32))) (root_total xs) (root_total (take (i + 1) xs)) (root_total ys) (root_total (take (i + 1) ys))
       (share xs ys (i + 1) h (omega arith)) (total_above laws.sum xs fair.each) (total_apart xs fair) (total_above laws.sum ys also.each) (total_apart ys also)
 
+  -- the place of a word is the same in proportional odds
   pub born_alike : (word : ℕ) (xs ys : List Root) (i : ℕ) → IsFair xs → IsFair ys → IsProportional xs ys → IsProportional ys xs
       → IsBornIndex word xs i → IsBornIndex word ys i
   born_alike word xs ys i fair also h back born = record {

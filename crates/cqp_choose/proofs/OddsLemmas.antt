@@ -12,9 +12,11 @@ use Rattle.cqp_ring.specs.Root.{root_total, zero_root}
 use Rattle.cqp_choose.specs.Odds.{IsLawfulOdd, IsFair, IsLawful}
 use Rattle.cqp_choose.specs.Small.{IsSmall}
 
+-- norms of the same parts are the same
 pub same_root : {p q r s : ℤ} → p ≡ r → q ≡ s → let x : Root = record { p = p; q = q } in let y : Root = record { p = r; q = s } in x ≡ y
 same_root e f = cc
 
+-- the number of a lesser square is lesser
 root_le : (a b : ℕ) → a * a ≤ b * b → a ≤ b
 root_le a b h = by_cases (cases_lt b a)
   where
@@ -28,6 +30,7 @@ root_le a b h = by_cases (cases_lt b a)
 abbrev pub IsWide : Root → Type 0
 IsWide x = pos (nat_abs x.q) ≤ℤ x.p
 
+-- where twice the square of q is at most that of p, q's size is at most p
 squares_wide : (p q : ℤ) → pos 0 ≤ℤ p → (pos 2 *ℤ (q *ℤ q)) ≤ℤ (p *ℤ p) → pos (nat_abs q) ≤ℤ p
 squares_wide (pos m) (pos n) s h = let f : n ≤ m = root_le n m (omega (arith, ints)) in omega (arith, ints)
 squares_wide (pos m) (negsuc n) s h = let f : suc n ≤ m = root_le (suc n) m (omega (arith, ints)) in omega (arith, ints)
@@ -46,25 +49,31 @@ odd_wide x h = by_cases h.above h.turned_above
     by_cases (inr (inr h)) (inr (inl g)) = absurd (omega (arith, ints, h.0, g.0))
     by_cases (inr (inr h)) (inr (inr g)) = absurd (omega (arith, ints, h.1, g.1))
 
+-- a sum of two such norms is one
 wide_sum : (x y : Root) → IsWide x → IsWide y → IsWide (root_sum x y)
 wide_sum x y h g = omega (arith, ints)
 
+-- odds without the first are lawful
 rest_odd : (x : Root) (xs : List Root) → All IsLawfulOdd (x ∷ xs) → All IsLawfulOdd xs
 rest_odd x xs h k d below = h (suc k) d (omega arith)
 
+-- the first of lawful odds is lawful
 first_odd : (x : Root) (xs : List Root) → All IsLawfulOdd (x ∷ xs) → IsLawfulOdd x
 first_odd x xs h = h 0 x (omega arith)
 
+-- the sum of lawful odds is such a norm
 pub total_wide : (xs : List Root) → All IsLawfulOdd xs → IsWide (root_total xs)
 total_wide [] h = omega (arith, ints)
 total_wide (x ∷ xs) h = wide_sum x (root_total xs) (odd_wide x (first_odd x xs h)) (total_wide xs (rest_odd x xs h))
 
+-- the first n of lawful odds are lawful
 front_odd : (xs : List Root) (n : ℕ) → All IsLawfulOdd xs → All IsLawfulOdd (take n xs)
 front_odd xs zero h k d below = absurd (omega arith)
 front_odd [] (suc n) h k d below = absurd (omega arith)
 front_odd (x ∷ xs) (suc n) h zero d below = h 0 d (omega arith)
 front_odd (x ∷ xs) (suc n) h (suc k) d below = front_odd xs n (rest_odd x xs h) k d (omega arith)
 
+-- the whole part of the sum of the first odds is at most that of all
 front_le : (xs : List Root) (n : ℕ) → All IsLawfulOdd xs → (root_total (take n xs)).p ≤ℤ (root_total xs).p
 front_le xs zero h = let f = total_wide xs h in omega (arith, ints)
 front_le [] (suc n) h = omega (arith, ints)
@@ -77,9 +86,11 @@ front_small xs n h = record {
   whole = let f = front_le xs n h.fair.each in omega (arith, ints, h.total);
 }
 
+-- the sum of lawful odds is small
 pub total_small : (xs : List Root) → IsLawful xs → IsSmall (root_total xs)
 total_small xs h = record { root = total_wide xs h.fair.each; whole = h.total }
 
+-- sums of norms may be bracketed either way
 sum_assoc : (x y z : Root) → root_sum x (root_sum y z) ≡ root_sum (root_sum x y) z
 sum_assoc x y z = same_root (omega (arith, ints)) (omega (arith, ints))
 
@@ -90,6 +101,7 @@ one_more_suc [] (suc i) = same_root (omega (arith, ints)) (omega (arith, ints))
 one_more_suc (x ∷ xs) zero = same_root (omega (arith, ints)) (omega (arith, ints))
 one_more_suc (x ∷ xs) (suc i) = ap (root_sum x) (one_more_suc xs i) ∙ sum_assoc x (root_total (take i xs)) (root_at xs i)
 
+-- the sum of the first odds, and of one more
 pub one_more : (xs : List Root) (i : ℕ) → root_total (take (i + 1) xs) ≡ root_sum (root_total (take i xs)) (root_at xs i)
 one_more xs i = rw add-one (one_more_suc xs i)
 
@@ -113,6 +125,7 @@ pub total_above : ((x y : Root) → IsAtLeastZero x → IsAtLeastZero y → IsAt
 total_above sum [] h = inl (omega (arith, ints), omega (arith, ints))
 total_above sum (x ∷ xs) h = sum x (root_total xs) (first_odd x xs h).above (total_above sum xs (rest_odd x xs h))
 
+-- a small norm fits the type of norms
 pub small_fits : (x : Root) → IsSmall x → RootFits x
 small_fits x h = record { p_fits = omega (arith, ints, h.root, h.whole); q_fits = omega (arith, ints, h.root, h.whole) }
 

@@ -6,11 +6,9 @@ mod kept;
 mod laws;
 mod script;
 mod seed;
-#[cfg(test)]
-mod tests;
 
 pub use born::{born_index, born_pick};
 pub use kept::Kept;
 pub use laws::{born_laws, pick_laws};
 pub use script::script_pick;
-pub use seed::seed_pick;
+pub use seed::{seed_pick, turn_word};

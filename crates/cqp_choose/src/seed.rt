@@ -10,7 +10,7 @@ use rand_core::SeedableRng;
 use rand_core::utils::NextWord;
 use rand_pcg::Lcg64Xsh32;
 
-// The word of a turn: the generator of the seed is moved on by as many words as turns went before.
+/// The word of a turn: the generator of the seed is moved on by as many words as turns went before.
 pub fn turn_word(seed: u64, turn: u64) -> u32
     ensures { result ≡ word.turn_word seed turn }
 {

@@ -1,7 +1,8 @@
 -- Each canonical token of a printable tree has a spelling.
-use Rattle.std.proofs.Common.{ℕ, ◌<◌, ◌^◌, List, [], ◌∷◌, ◌++◌, ◌≡◌, ◌⊎◌, inl, inr, Bool, true}
+use Rattle.std.proofs.Common.{ℕ, ◌<◌, ◌^◌, List, [], ◌∷◌, ◌++◌, inl, inr, Bool, true}
 use Rattle.std.proofs.Common.{false, arith}
 use Rattle.std.specs.Prelude.{if◌then◌else◌}
+use Rattle.cqp_syntax.specs.Gates.{IsPlaceCount}
 use Rattle.cqp_syntax.specs.TypeTrees.{TypeTree, int_type, unit_type, qbit_type, op_type, chan_type}
 use Rattle.cqp_syntax.specs.TypeTrees.{TypeTrees, no_types, type_and}
 use Rattle.cqp_grammar.specs.declared.token.Token.{Token}
@@ -11,7 +12,7 @@ use Rattle.cqp_grammar.specs.Trees.{add, apply, measure, ExprTrees, no_exprs, ex
 use Rattle.cqp_grammar.specs.Trees.{nil, par, new, qbit, act, input, output, branch, call}
 use Rattle.cqp_grammar.specs.Trees.{DefinitionTree, ProgramTree}
 use Rattle.cqp_grammar.specs.Canonical.{in_parentheses, names_tokens, type_tokens, types_tokens}
-use Rattle.cqp_grammar.specs.Canonical.{params_tokens, Place, enclosed, last, inner, behind_plus}
+use Rattle.cqp_grammar.specs.Canonical.{params_tokens, Position, enclosed, last, inner, behind_plus}
 use Rattle.cqp_grammar.specs.Canonical.{has_parentheses, expr_tokens, expr_at, placed, items_tokens}
 use Rattle.cqp_grammar.specs.Canonical.{as_body, process_tokens, definition_tokens}
 use Rattle.cqp_grammar.specs.Canonical.{definitions_tokens, program_tokens}
@@ -26,6 +27,7 @@ joined : (ts us : List Token) → AreSpelled ts → AreSpelled us → AreSpelled
 joined [] us none more = more
 joined (t ∷ ts) us all more = (all.0, joined ts us all.1 more)
 
+-- parentheses round spelled tokens are spelled
 in_parentheses_spelled : (ts : List Token) → AreSpelled ts → AreSpelled (in_parentheses ts)
 in_parentheses_spelled ts all = (tt, joined ts _ all (tt, tt))
 
@@ -35,27 +37,33 @@ names_spelled [] ok = tt
 names_spelled (x ∷ []) ok = (ok.0, tt)
 names_spelled (x ∷ y ∷ ys) ok = (ok.0, (tt, names_spelled (y ∷ ys) ok.1))
 
+-- the tokens of names are spelled
 some_names_spelled : (xs : List Occurrence) → AreSomeNames xs → AreSpelled (names_tokens xs)
 some_names_spelled [] ok = absurd ok
 some_names_spelled (x ∷ xs) ok = names_spelled (x ∷ xs) ok
 
-one_or_two : (n : ℕ) → (n ≡ 1) ⊎ (n ≡ 2) → n < 2 ^ 32
-one_or_two n (inl one) = omega (arith, one)
-one_or_two n (inr two) = omega (arith, two)
+-- how many places a gate has is a number of a text
+place_count_small : (n : ℕ) → IsPlaceCount n → n < 2 ^ 32
+place_count_small n (inl one) = omega (arith, one)
+place_count_small n (inr (inl two)) = omega (arith, two)
+place_count_small n (inr (inr three)) = omega (arith, three)
 
 mutual
+  -- the tokens of a type are spelled
   type_spelled : (t : TypeTree) → IsPrintableType t → AreSpelled (type_tokens t)
   type_spelled int_type ok = (tt, tt)
   type_spelled unit_type ok = (tt, tt)
   type_spelled qbit_type ok = (tt, tt)
-  type_spelled (op_type places) ok = (tt, (tt, (one_or_two places ok, (tt, tt))))
+  type_spelled (op_type places) ok = (tt, (tt, (place_count_small places ok, (tt, tt))))
   type_spelled (chan_type us) ok = (tt, (tt, joined (types_tokens us) _ (types_spelled us ok) (tt, tt)))
 
+  -- the tokens of types are spelled
   types_spelled : (us : TypeTrees) → ArePrintableTypes us → AreSpelled (types_tokens us)
   types_spelled no_types ok = tt
   types_spelled (type_and t no_types) ok = type_spelled t ok.0
   types_spelled (type_and t (type_and u us)) ok = joined (type_tokens t) _ (type_spelled t ok.0) (tt, types_spelled (type_and u us) ok.1)
 
+-- the tokens of parameters are spelled
 params_spelled : (ps : List Parameter) → ArePrintableParams ps → AreSpelled (params_tokens ps)
 params_spelled [] ok = tt
 params_spelled (p ∷ []) ok = (ok.0, (tt, type_spelled p.ty ok.1))
@@ -66,9 +74,11 @@ chosen_spelled : (grouped : Bool) (ts : List Token) → AreSpelled ts → AreSpe
 chosen_spelled true ts all = in_parentheses_spelled ts all
 chosen_spelled false ts all = all
 
-placed_spelled : (place : Place) (e : ExprTree) (ts : List Token) → AreSpelled ts → AreSpelled (placed place e ts)
-placed_spelled place e ts all = chosen_spelled (has_parentheses e place) ts all
+-- at each position the tokens of an expression stay spelled
+placed_spelled : (position : Position) (e : ExprTree) (ts : List Token) → AreSpelled ts → AreSpelled (placed position e ts)
+placed_spelled position e ts all = chosen_spelled (has_parentheses e position) ts all
 
+-- the tokens of an expression are spelled
 expr_spelled : (e : ExprTree) → IsPrintableExpr e → AreSpelled (expr_tokens e)
 expr_spelled (number at v) ok = (ok, tt)
 expr_spelled (unit at) ok = (tt, tt)
@@ -80,14 +90,17 @@ expr_spelled (add at e f) ok = joined (expr_at inner e) _ (placed_spelled inner 
 expr_spelled (apply at xs e) ok = joined (names_tokens xs) _ (some_names_spelled xs ok.0) (tt, placed_spelled inner e (expr_tokens e) (expr_spelled e ok.1))
 expr_spelled (measure at xs) ok = (tt, some_names_spelled xs ok)
 
-expr_at_spelled : (place : Place) (e : ExprTree) → IsPrintableExpr e → AreSpelled (expr_at place e)
-expr_at_spelled place e ok = placed_spelled place e (expr_tokens e) (expr_spelled e ok)
+-- the tokens of an expression at a position are spelled
+expr_at_spelled : (position : Position) (e : ExprTree) → IsPrintableExpr e → AreSpelled (expr_at position e)
+expr_at_spelled position e ok = placed_spelled position e (expr_tokens e) (expr_spelled e ok)
 
+-- the tokens of items are spelled
 items_spelled : (es : ExprTrees) → ArePrintableExprs es → AreSpelled (items_tokens es)
 items_spelled no_exprs ok = tt
 items_spelled (expr_and e no_exprs) ok = expr_at_spelled last e ok.0
 items_spelled (expr_and e (expr_and f fs)) ok = joined (expr_at inner e) _ (expr_at_spelled inner e ok.0) (tt, items_spelled (expr_and f fs) ok.1)
 
+-- the tokens of a body are spelled, with parentheses or without
 body_spelled : (p : ProcessTree) (ts : List Token) → AreSpelled ts → AreSpelled (as_body p ts)
 body_spelled (par at p q) ts all = in_parentheses_spelled ts all
 body_spelled (nil at) ts all = all
@@ -99,6 +112,7 @@ body_spelled (output at c es p) ts all = all
 body_spelled (branch at e f p q) ts all = all
 body_spelled (call at f xs) ts all = all
 
+-- the tokens of a process are spelled
 process_spelled : (p : ProcessTree) → IsPrintableProcess p → AreSpelled (process_tokens p)
 process_spelled (nil at) ok = (omega arith, tt)
 process_spelled (par at p q) ok = joined (as_body p (process_tokens p)) _ (body_spelled p _ (process_spelled p ok.0)) (tt, process_spelled q ok.1)
@@ -120,6 +134,7 @@ process_spelled (branch at e f p q) ok = (
 )
 process_spelled (call at f xs) ok = (ok.0, in_parentheses_spelled (names_tokens xs) (names_spelled xs ok.1))
 
+-- the tokens of a definition are spelled
 definition_spelled : (d : DefinitionTree) → ArePrintableParams d.params → IsPrintableProcess d.body
     → IsSpelled (Name d.name 0) → AreSpelled (definition_tokens d)
 definition_spelled d ps body named = (
@@ -134,6 +149,7 @@ definition_spelled d ps body named = (
   ),
 )
 
+-- the tokens of definitions are spelled
 definitions_spelled : (ds : List DefinitionTree) → ArePrintableDefinitions ds → AreSpelled (definitions_tokens ds)
 definitions_spelled [] ok = tt
 definitions_spelled (d ∷ ds) ok = joined (definition_tokens d) _ (definition_spelled d ok.1 ok.2 ok.0) (definitions_spelled ds ok.3)

@@ -1,8 +1,10 @@
 -- Which trees have a text, and when trees or tokens are the same but for offsets.
-use Rattle.std.specs.Prelude.{◌≡◌, ◌⊎◌, ◌^◌, ◌<◌, List, [], ◌∷◌, map}
+use Rattle.std.specs.Prelude.{◌≡◌, ◌^◌, ◌<◌, List, [], ◌∷◌, map}
+use Rattle.cqp_syntax.specs.Gates.{IsPlaceCount}
 use Rattle.cqp_syntax.specs.TypeTrees.{TypeTree, op_type, chan_type, TypeTrees, no_types, type_and}
 use Rattle.cqp_grammar.specs.declared.token.Token.{Token}
-use Rattle.cqp_grammar.specs.declared.token.Token.TheVariants.{Name, Number, Key, Sign, Bad, End}
+use Rattle.cqp_grammar.specs.declared.token.Token.TheVariants.{Name, Number, Reserved, Symbol, Bad}
+use Rattle.cqp_grammar.specs.declared.token.Token.TheVariants.{End}
 use Rattle.cqp_grammar.specs.Spelling.{IsName}
 use Rattle.cqp_grammar.specs.Trees.{Occurrence, Parameter, ExprTree, number, unit, name, gate, sig}
 use Rattle.cqp_grammar.specs.Trees.{add, apply, measure, ExprTrees, no_exprs, expr_and, ProcessTree}
@@ -20,12 +22,13 @@ AreSomeNames [] = ⊥
 AreSomeNames (x ∷ xs) = IsName x.name × AreNames xs
 
 abbrev mutual
-  -- each `Op` has one place or two
+  -- each `Op` has one, two or three places
   pub IsPrintableType : TypeTree → Type 0
-  IsPrintableType (op_type places) = (places ≡ 1) ⊎ (places ≡ 2)
+  IsPrintableType (op_type places) = IsPlaceCount places
   IsPrintableType (chan_type ts) = ArePrintableTypes ts
   IsPrintableType t = Unit {0}
 
+  -- each of the types is so
   pub ArePrintableTypes : TypeTrees → Type 0
   ArePrintableTypes no_types = Unit {0}
   ArePrintableTypes (type_and t ts) = IsPrintableType t × ArePrintableTypes ts
@@ -80,9 +83,11 @@ pub record IsPrintable (t : ProgramTree) : Type 0 where
 abbrev pub unplaced_name : Occurrence → Occurrence
 unplaced_name x = record { name = x.name; at = 0 }
 
+-- a parameter at offset 0
 abbrev pub unplaced_param : Parameter → Parameter
 unplaced_param p = record { name = p.name; at = 0; ty = p.ty }
 
+-- an expression at offset 0
 abbrev pub unplaced_expr : ExprTree → ExprTree
 unplaced_expr (number at v) = number 0 v
 unplaced_expr (unit at) = unit 0
@@ -93,10 +98,12 @@ unplaced_expr (add at e f) = add 0 (unplaced_expr e) (unplaced_expr f)
 unplaced_expr (apply at xs e) = apply 0 (map unplaced_name xs) (unplaced_expr e)
 unplaced_expr (measure at xs) = measure 0 (map unplaced_name xs)
 
+-- expressions at offset 0
 abbrev pub unplaced_exprs : ExprTrees → ExprTrees
 unplaced_exprs no_exprs = no_exprs
 unplaced_exprs (expr_and e es) = expr_and (unplaced_expr e) (unplaced_exprs es)
 
+-- a process at offset 0
 abbrev pub unplaced_process : ProcessTree → ProcessTree
 unplaced_process (nil at) = nil 0
 unplaced_process (par at p q) = par 0 (unplaced_process p) (unplaced_process q)
@@ -111,6 +118,7 @@ unplaced_process (branch at e f p q) =
     branch 0 (unplaced_expr e) (unplaced_expr f) (unplaced_process p) (unplaced_process q)
 unplaced_process (call at f xs) = call 0 f (map unplaced_name xs)
 
+-- a definition at offset 0
 abbrev pub unplaced_definition : DefinitionTree → DefinitionTree
 unplaced_definition d = record
     { name = d.name; at = 0; params = map unplaced_param d.params; body = unplaced_process d.body }
@@ -127,8 +135,8 @@ SameButOffsets a b = unplaced a ≡ unplaced b
 abbrev pub unplaced_token : Token → Token
 unplaced_token (Name text at) = Name text 0
 unplaced_token (Number v at) = Number v 0
-unplaced_token (Key k at) = Key k 0
-unplaced_token (Sign s at) = Sign s 0
+unplaced_token (Reserved k at) = Reserved k 0
+unplaced_token (Symbol s at) = Symbol s 0
 unplaced_token (Bad at) = Bad 0
 unplaced_token (End at) = End 0
 

@@ -2,7 +2,7 @@ ghost use Rattle.std.specs.Prelude.{◌≡◌, ◌≤◌, ◌↔◌, IsTrue, Con
 ghost use Rattle.cqp_outside.specs.Calls.{Calls, no_calls, after_call, after_fault};
 
 use crate::failed::Failed;
-use crate::numbers::Numbers;
+use crate::lists::Numbers;
 use std::marker::Model;
 
 /// Which calls of a source or a sink in memory are to fail, and the counts of calls and of faults.

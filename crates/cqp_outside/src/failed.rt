@@ -1,10 +1,5 @@
-//! The two plain errors: a call outside that failed, and want of memory. Contracts see each as its
-//! one value.
-use std::alloc::AllocError;
+//! A call outside that failed. Contracts see it as its one value.
 
 /// A call of a source or a sink failed, for whatever cause.
 #[derive(Clone, Copy, Debug, Eq, PartialEq)]
 pub struct Failed;
-
-/// Memory is wanting.
-pub type NoMemory = AllocError;

@@ -5,9 +5,10 @@ ghost use Rattle.cqp_outside.specs.Taken.{WritesSome};
 ghost use Rattle.cqp_outside.specs.Tray.{empty_tray, IsFailing, IsTaken};
 
 use crate::call_log::CallLog;
-use crate::failed::{Failed, NoMemory};
-use crate::numbers::Numbers;
+use crate::failed::Failed;
+use crate::lists::Numbers;
 use crate::sink::Sink;
+use cqp_lists::NoMemory;
 use std::alloc::Global;
 use std::marker::Model;
 

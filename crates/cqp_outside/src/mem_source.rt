@@ -4,10 +4,9 @@ ghost use Rattle.std.specs.Io.KnownBytes.{ReadConsumes};
 ghost use Rattle.cqp_outside.specs.Causes.{HasCause};
 ghost use Rattle.cqp_outside.specs.Feed.{feed_of, IsGiven};
 
-use crate::bytes::Bytes;
 use crate::call_log::CallLog;
 use crate::failed::Failed;
-use crate::numbers::Numbers;
+use crate::lists::{Bytes, Numbers};
 use crate::rest::Rest;
 use crate::source::Source;
 use std::marker::Model;

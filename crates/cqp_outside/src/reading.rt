@@ -3,9 +3,10 @@ ghost use Rattle.std.specs.Prelude.{◌≡◌, ◌<◌, ◌≤◌, ◌^◌, IsEr
 ghost use Rattle.cqp_outside.specs.Causes.{Rose};
 ghost use Rattle.cqp_outside.specs.ReadEnd.{IsRead};
 
-use crate::bytes::Bytes;
-use crate::failed::{Failed, NoMemory};
+use crate::failed::Failed;
+use crate::lists::Bytes;
 use crate::source::Source;
+use cqp_lists::NoMemory;
 use std::alloc::Global;
 
 /// How many bytes are asked for at once.

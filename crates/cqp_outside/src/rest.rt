@@ -1,6 +1,6 @@
 ghost use Rattle.std.specs.Prelude.{◌≡◌, ◌++◌, drop, length, min, take};
 
-use crate::bytes::Bytes;
+use crate::lists::Bytes;
 use std::marker::Model;
 
 /// Bytes that are given from the front. Contracts see those not yet given.

@@ -3,8 +3,8 @@ ghost use Rattle.std.specs.Io.{ReadsAtMost};
 ghost use Rattle.std.specs.Io.KnownBytes.{ReadConsumes};
 ghost use Rattle.cqp_outside.specs.Causes.{HasCause};
 
-use crate::bytes::Bytes;
 use crate::failed::Failed;
+use crate::lists::Bytes;
 use crate::rest::Rest;
 use crate::source::Source;
 use std::marker::Model;

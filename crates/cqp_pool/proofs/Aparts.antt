@@ -4,7 +4,7 @@ use Rattle.std.proofs.Common.{Vec, Global, map, length, take, drop, get_or, slic
 use Rattle.std.proofs.Common.{ap, ◌∙◌, arith}
 use Rattle.std.specs.List.{sum_by}
 use Rattle.std.proofs.lemmas.List.Sums.{sum_by-append}
-use Rattle.std.proofs.lemmas.List.{take_more, map-append, length_push}
+use Rattle.std.proofs.lemmas.List.{take_more, map-append, length_push, length-take-le}
 use Rattle.std.proofs.lemmas.List.Elements.{All-push, All-nil, All-cons}
 use Rattle.std.proofs.lemmas.Option.{get_or_from_slice_get}
 use Rattle.cqp_pool.specs.declared.tally.Tally.{Tally}
@@ -13,7 +13,7 @@ use Rattle.cqp_pool.specs.Tallies.{tally}
 use Rattle.cqp_pool.specs.Pools.{PoolId, LaneState}
 use Rattle.cqp_pool.specs.Parts.{Owned, Reached, Entered, Log, deques_of}
 use Rattle.cqp_pool.specs.Parts.{stolen, queue_parts}
-use Rattle.cqp_pool.specs.Apart.{AreParts, IsApart, Rows}
+use Rattle.cqp_pool.specs.Apart.{AreParts, IsApart, IsInOrder, Rows}
 use Rattle.cqp_pool.proofs.Changes.{sum_by-pushed_of, sum_by-taken_of}
 use Rattle.cqp_pool.proofs.Gives.{sum_by-flat_map-push}
 use Rattle.cqp_pool.proofs.Seats.{queue_parts-after}
@@ -21,25 +21,32 @@ use Rattle.cqp_pool.proofs.Zips.{length-deques_of}
 
 module _ {T : Type 0} (number : T → ℕ) (pool : PoolId) (l : LaneState T) (own : Owned) (row : Vec Reached Global) (other : Entered) (kept : Log T)
     (parts : AreParts number l own row.items other kept) (of_pool : l.pool ≡ pool) where
+  -- the lane's ways in lead to the pool's deques, in order
   leads : deques_of row.items ≡ pool.deques
   leads = sym (ap (λ (p : PoolId). p.deques) parts.pool) ∙ ap (λ (p : PoolId). p.deques) of_pool
 
+  -- the lane's entry is to the pool's queue
   pub same_queue : other.queue ≡ pool.queue
   same_queue = sym (ap (λ (p : PoolId). p.queue) parts.pool) ∙ ap (λ (p : PoolId). p.queue) of_pool
 
+  -- the lane has a way into each deque
   row_length : length row.items ≡ length pool.deques
   row_length = sym (length-deques_of row.items) ∙ ap length leads
 
+  -- the owner lacks one part for each lane, and has some
   own_parts : (own.view.parts + length pool.deques ≡ 1024) × (0 < own.view.parts)
   own_parts = ((let a = parts.place.own_parts in let b = row_length in omega arith), parts.place.own_some)
 
+  -- the owner's deque stands in the pool at the lane's number
   own_deque : (n : ℕ) → l.number ≡ n → get_or pool.deques n own.deque ≡ own.deque
   own_deque n at = get_or_from_slice_get pool.deques n own.deque own.deque (ap (λ m. slice_get pool.deques m) (sym at)
       ∙ ap (λ ds. slice_get ds l.number) (sym leads) ∙ parts.place.own_deque)
 
+  -- what was pushed by a lane was pushed by its parts
   pushed_weight : (weight : ℕ → ℕ) → sum_by weight l.pushed ≡ (sum_by weight own.view.pushed + sum_by weight other.view.pushed) + sum_by weight kept.pushed
   pushed_weight weight = sym (ap (sum_by weight) parts.pushed) ∙ sum_by-pushed_of weight own.view other.view kept
 
+  -- what was taken by a lane was taken by its parts
   taken_weight : (weight : ℕ → ℕ)
       → sum_by weight l.taken ≡ ((sum_by weight own.view.taken + sum_by weight other.view.taken) + sum_by weight kept.taken) + sum_by weight (stolen row.items)
   taken_weight weight = sym (ap (sum_by weight) parts.taken) ∙ sum_by-taken_of weight own.view other.view kept row.items
@@ -126,6 +133,27 @@ module _ {T : Type 0} (number : T → ℕ) (pool : PoolId) where
   pub apart_same : (ls ls' : List (LaneState T)) (owns owns' : List Owned) (rows rows' : Rows) (kepts kepts' : List (Log T)) (door : Entered)
       → ls' ≡ ls → owns' ≡ owns → rows' ≡ rows → kepts' ≡ kepts → IsApart number pool ls owns rows kepts door → IsApart number pool ls' owns' rows' kepts' door
   apart_same ls ls' owns owns' rows rows' kepts kepts' door a b c d apart = rw (a, b, c, d) apart
+
+module _ {T : Type 0} (number : T → ℕ) (pool : PoolId) (l : LaneState T) (own : Owned) (row : Vec Reached Global) (other : Entered) (kept : Log T)
+    (parts : AreParts number l own row.items other kept) (of_pool : l.pool ≡ pool) where
+  -- once the first k lanes are taken apart, and then the one at k, the first m are, where m is one more
+  pub apart_next : (lanes : List (LaneState T)) (k m : ℕ) (owns owns' : List Owned) (rows rows' : Rows) (kepts kepts' : List (Log T))
+      (door door' given : Entered) → m ≡ k + 1 → 0 < k → IsInOrder pool lanes → IsApart number pool (take k lanes) owns rows kepts door
+      → (k < length lanes) × (l ≡ get_or lanes k l) → owns' ≡ owns ++ own ∷ [] → rows' ≡ rows ++ row ∷ [] → kepts' ≡ kepts ++ kept ∷ []
+      → given ≡ other → door'.queue ≡ door.queue
+      → door'.view ≡ tally (door.view.parts + given.view.parts) (door.view.pushed ++ given.view.pushed) (door.view.taken ++ given.view.taken)
+      → IsApart number pool (take m lanes) owns' rows' kepts' door'
+  apart_next lanes k m owns owns' rows rows' kepts kepts' door door' given next some order before at more_owns more_rows more_kepts same queue view =
+      let lt = at.0 in
+      let len : length (take k lanes) ≡ k = length-take-le k lanes (omega arith) in
+      let here = ap (λ (x : LaneState T). x.number) at.1 ∙ order.numbers k l lt ∙ sym len in
+      let in_pool : length (take k lanes) < length pool.deques = let c = order.count in omega arith in
+      let was = door.view in
+      let view' = view ∙ ap (λ (d : Entered). tally (was.parts + d.view.parts) (was.pushed ++ d.view.pushed) (was.taken ++ d.view.taken)) same in
+      let whole = apart_more number pool l own row other kept parts of_pool (take k lanes) owns rows kepts door door' before here (omega arith) in_pool
+      queue view' in
+      apart_same number pool (take k lanes ++ l ∷ []) (take m lanes) (owns ++ own ∷ []) owns' (rows ++ row ∷ []) rows' (kepts ++ kept ∷ []) kepts' door'
+      (ap (λ n. take n lanes) next ∙ take_more lanes k l lt ∙ ap (λ x. take k lanes ++ x ∷ []) (sym at.1)) more_owns more_rows more_kepts whole
 
 -- where the next lane stands, once the first was taken out
 pub next_lane : {X : Type 0} (lanes rest : List X) (n : ℕ) (x : X) → rest ≡ drop 1 lanes → n < length rest → x ≡ get_or rest n x

@@ -7,9 +7,11 @@ use Rattle.cqp_pool.specs.Often.{AsOften}
 use Rattle.cqp_pool.specs.Parts.{Log, Reached, stolen, pushed_of, taken_of}
 
 module _ {T : Type 0} (weight : ℕ → ℕ) (o d : Tally) (k : Log T) where
+  -- what a lane pushed weighs what went to its deque, to the queue and to those kept
   pub sum_by-pushed_of : sum_by weight (pushed_of o d k) ≡ (sum_by weight o.pushed + sum_by weight d.pushed) + sum_by weight k.pushed
   sum_by-pushed_of = omega (arith, sum_by-append weight (o.pushed ++ d.pushed) k.pushed, sum_by-append weight o.pushed d.pushed)
 
+  -- what a lane took weighs what came of its deque, the queue, those kept and steals
   pub sum_by-taken_of : (row : List Reached)
       → sum_by weight (taken_of o d k row) ≡ ((sum_by weight o.taken + sum_by weight d.taken) + sum_by weight k.taken) + sum_by weight (stolen row)
   sum_by-taken_of row =

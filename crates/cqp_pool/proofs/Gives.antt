@@ -7,9 +7,11 @@ use Rattle.std.proofs.lemmas.List.{map-append}
 use Rattle.cqp_pool.specs.Often.{AsOften, AddUp, IsWithin}
 use Rattle.cqp_pool.specs.Parts.{Log, Gives}
 
+-- a number at the end adds its weight
 pub sum_by-push : (weight : ℕ → ℕ) (xs : List ℕ) (n : ℕ) → sum_by weight (xs ++ n ∷ []) ≡ sum_by weight xs + weight n
 sum_by-push weight xs n = omega (arith, sum_by-append weight xs (n ∷ []), sum_by-cons weight n [])
 
+-- lists put together weigh as much as they do one by one
 pub sum_by-flat_map : {X : Type 0} (f : X → List ℕ) (weight : ℕ → ℕ) (xs : List X) → sum_by weight (flat_map f xs) ≡ sum_by (λ x. sum_by weight (f x)) xs
 sum_by-flat_map f weight [] = refl
 sum_by-flat_map f weight (x ∷ xs) =
@@ -28,6 +30,7 @@ sum_by-flat_map-push f weight xs x =
     omega arith
 
 module _ {X : Type 0} (pushed taken : X → List ℕ) where
+  -- an entry written over by one with the same numbers changes nothing
   flat_map-set : (xs : List X) (k : ℕ) (y d : X) → pushed y ≡ pushed (get_or xs k d) → flat_map pushed (set xs k y) ≡ flat_map pushed xs
   flat_map-set [] k y d same = refl
   flat_map-set (x ∷ xs) zero y d same = ap (λ l. l ++ flat_map pushed xs) same

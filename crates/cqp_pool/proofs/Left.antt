@@ -8,6 +8,7 @@ use Rattle.cqp_pool.specs.Often.{AsOften}
 abbrev pub weight_of : (ℕ → ℕ) → List ℕ → List ℕ → List ℕ → ℕ
 weight_of weight q o k = (sum_by weight q + sum_by weight o) + sum_by weight k
 
+-- three lists put together weigh as much as they do one by one
 pub sum_by-three : (weight : ℕ → ℕ) (q o k all : List ℕ) → (q ++ o) ++ k ≡ all → sum_by weight all ≡ weight_of weight q o k
 sum_by-three weight q o k all is =
     let w = ap (sum_by weight) is in omega (arith, sum_by-append weight (q ++ o) k, sum_by-append weight q o)

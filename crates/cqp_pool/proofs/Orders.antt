@@ -16,12 +16,15 @@ use Rattle.cqp_pool.proofs.Gives.{sum_by-flat_map}
 abbrev mark : ℕ → ℕ → ℕ
 mark n x = if x == n then 1 else 0
 
+-- the number itself weighs 1
 mark-same : (n : ℕ) → mark n n ≡ 1
 mark-same n = grind (arith, nat_tests)
 
+-- another number weighs nothing
 mark-other : (n x : ℕ) → x ≢ n → mark n x ≡ 0
 mark-other n x other = grind (arith, nat_tests)
 
+-- a list in which the number stands weighs something
 contained_has_weight : (n : ℕ) (xs : List ℕ) (k d : ℕ) → k < length xs → get_or xs k d ≡ n → 0 < sum_by (mark n) xs
 contained_has_weight n [] k d in_range here = absurd (omega arith)
 contained_has_weight n (x ∷ xs) zero d in_range here =
@@ -29,6 +32,7 @@ contained_has_weight n (x ∷ xs) zero d in_range here =
 contained_has_weight n (x ∷ xs) (suc k) d in_range here =
     let rest = contained_has_weight n xs k d (omega arith) here in omega (arith, sum_by-cons (mark n) x xs)
 
+-- the number stands in a list that weighs something
 contained_by_weight : (n : ℕ) (xs : List ℕ) → 0 < sum_by (mark n) xs → Contains xs n
 contained_by_weight n [] some = absurd (let z : 0 < 0 = some in omega arith)
 contained_by_weight n (x ∷ xs) some =
@@ -44,6 +48,7 @@ sum_by-ones : (xs : List ℕ) → sum_by (λ _. 1) xs ≡ length xs
 sum_by-ones [] = refl
 sum_by-ones (x ∷ xs) = let rest = sum_by-ones xs in omega (arith, sum_by-cons (λ (_ : ℕ). 1) x xs)
 
+-- weights after a function are weights of its results
 sum_by-map : {X : Type 0} (weight : ℕ → ℕ) (f : X → ℕ) (xs : List X) → sum_by weight (map f xs) ≡ sum_by (λ x. weight (f x)) xs
 sum_by-map weight f [] = refl
 sum_by-map weight f (x ∷ xs) =
@@ -51,6 +56,7 @@ sum_by-map weight f (x ∷ xs) =
     let first = sum_by-cons (λ y. weight (f y)) x xs in
     omega (arith, sum_by-cons weight (f x) (map f xs))
 
+-- each lane has one number
 length-numbers_of : {T : Type 0} (lanes : List (LaneState T)) → length (numbers_of lanes) ≡ length lanes
 length-numbers_of [] = refl
 length-numbers_of (l ∷ ls) = ap suc (length-numbers_of ls)
@@ -80,6 +86,7 @@ module _ {T : Type 0} where
   number_absent (l ∷ ls) n zero none in_range at = none 0 l (omega arith) at
   number_absent (l ∷ ls) n (suc k) none in_range at = number_absent ls n k (λ j d lt. none (suc j) d (omega arith)) (omega arith) at
 
+  -- two lanes that change places permute the list
   swapped_is_permutation : (lanes : List (LaneState T)) (i j : ℕ) → i < length lanes → j < length lanes → IsPermutation lanes (swap lanes i j)
   swapped_is_permutation lanes i j i_in j_in = record { moves = (i, j) ∷ []; below = (i_in, j_in, tt); is = refl }
 

@@ -6,6 +6,7 @@ use Rattle.std.proofs.lemmas.List.Elements.{All-set}
 use Rattle.cqp_pool.specs.Pools.{LaneState, IsWhole, SamePlace, numbers_of}
 
 module _ {T : Type 0} where
+  -- lanes that keep their places keep their numbers
   numbers_of-kept : (old new : List (LaneState T)) → length new ≡ length old → ((k : ℕ) (d : LaneState T) → k < length old
       → SamePlace (get_or old k d) (get_or new k d))
       → numbers_of new ≡ numbers_of old
@@ -26,6 +27,7 @@ module _ {T : Type 0} where
     numbers = λ weight. ap (sum_by weight) (numbers_of-kept old new same kept) ∙ w.numbers weight;
   }
 
+  -- a lane written over by one of the same number leaves the numbers as they were
   numbers_of-set : (lanes : List (LaneState T)) (k : ℕ) (y d : LaneState T) → y.number ≡ (get_or lanes k d).number
       → numbers_of (set lanes k y) ≡ numbers_of lanes
   numbers_of-set [] k y d same = refl

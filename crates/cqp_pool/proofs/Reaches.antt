@@ -10,6 +10,7 @@ use Rattle.cqp_pool.specs.Often.{AsOften}
 use Rattle.cqp_pool.specs.Tallies.{tally, WasEmpty}
 use Rattle.cqp_pool.specs.Parts.{Reached, stolen, deques_of, passes_of}
 
+-- a way in written over by another into the same deque leads to the same deques
 pub deques_of-set : (row : List Reached) (k : ℕ) (r d : Reached) → r.deque ≡ (get_or row k d).deque → deques_of (set row k r) ≡ deques_of row
 deques_of-set [] k r d same = refl
 deques_of-set (x ∷ xs) zero r d same = ap (λ y. y ∷ deques_of xs) same
@@ -30,6 +31,7 @@ sum_by-stolen-set weight (x ∷ xs) (suc k) r d n in_range more =
     let s = sum_by-stolen-set weight xs k r d n (omega arith) more in
     omega arith
 
+-- one steal more adds its number to what was stolen, in some order
 pub stolen_one_more : (row was : List Reached) (k : ℕ) (r d : Reached) (n : ℕ) → row ≡ was → k < length was → r.taken ≡ (get_or row k d).taken ++ n ∷ []
     → AsOften (stolen (set row k r)) (n ∷ stolen was)
 stolen_one_more row was k r d n same in_range more weight =

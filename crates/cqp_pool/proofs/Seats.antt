@@ -4,23 +4,28 @@ use Rattle.std.proofs.Common.{◌∷◌, All, Some, length, take, get_or, slice_
 use Rattle.std.proofs.Common.{arith}
 use Rattle.std.specs.List.{range_with_len, sum_by}
 use Rattle.std.proofs.lemmas.Option.{slice_get-get_or}
-use Rattle.cqp_pool.specs.Tallies.{new_tally}
+use Rattle.cqp_pool.specs.declared.tally.Tally.{Tally}
+use Rattle.cqp_pool.specs.Tallies.{tally, new_tally}
 use Rattle.cqp_pool.specs.Pools.{DequeId, PoolId, LaneState, IsWhole, numbers_of}
 use Rattle.cqp_pool.specs.Parts.{Owned, Reached, Entered, IsLane, new_own, new_owns, new_row}
 use Rattle.cqp_pool.specs.Parts.{deques_of, stolen, queue_parts}
 
+-- a new row leads to the deques for which it was made
 pub deques_of-new_row : (ids : List DequeId) → deques_of (new_row ids) ≡ ids
 deques_of-new_row [] = refl
 deques_of-new_row (x ∷ xs) = ap (λ l. x ∷ l) (deques_of-new_row xs)
 
+-- a new row has one way for each deque
 pub length-new_row : (ids : List DequeId) → length (new_row ids) ≡ length ids
 length-new_row [] = refl
 length-new_row (x ∷ xs) = ap suc (length-new_row xs)
 
+-- nothing was stolen by a new row
 pub stolen-new_row : (ids : List DequeId) → stolen (new_row ids) ≡ []
 stolen-new_row [] = refl
 stolen-new_row (x ∷ xs) = stolen-new_row xs
 
+-- the first of new owners are the new owners of the first deques
 pub take-new_owns : (j k parts : ℕ) (ids : List DequeId) → j ≤ k → take j (new_owns parts (take k ids)) ≡ new_owns parts (take j ids)
 take-new_owns zero k parts ids le = refl
 take-new_owns (suc j) zero parts ids le = absurd (omega arith)
@@ -45,6 +50,19 @@ popped n k number ids os own count few before is here =
     let in_range : number < length ids = omega arith in
     here ∙ ap (λ l. get_or l (k - 1) own) is ∙ ap (λ m. get_or (new_owns (1024 - n) (take k ids)) m own) at
     ∙ get_or-new_owns number k (1024 - n) ids own lt in_range
+
+-- the owners that are left once the last is popped
+pub owners_left : (n k m : ℕ) (ids : List DequeId) (os os' : List Owned) → os ≡ new_owns (1024 - n) (take k ids) → os' ≡ take (k - 1) os → k - 1 ≡ m
+    → os' ≡ new_owns (1024 - n) (take m ids)
+owners_left n k m ids os os' is rest less =
+    rest ∙ ap (λ l. take (k - 1) l) is ∙ take-new_owns (k - 1) k (1024 - n) ids (omega arith) ∙ ap (λ j. new_owns (1024 - n) (take j ids)) less
+
+-- what is left of the first entry to the shared queue, once one part more went
+pub one_part_less : (n k m : ℕ) (old new : Tally) → k ≤ n → m + 1 ≡ k → new ≡ tally (old.parts - 1) old.pushed old.taken
+    → old ≡ new_tally (1024 - (n - k)) → new ≡ new_tally (1024 - (n - m))
+one_part_less n k m old new few next less is =
+    let parts : 1024 - (n - k) - 1 ≡ 1024 - (n - m) = omega arith in
+    less ∙ ap (λ (t : Tally). tally (t.parts - 1) t.pushed t.taken) is ∙ ap new_tally parts
 
 -- the view of a new owner
 pub new_view : (parts : ℕ) (id : DequeId) (own : Owned) → own ≡ new_own parts id → own.view ≡ new_tally own.view.parts
@@ -72,11 +90,19 @@ pub queue_parts-after : (number n : ℕ) → number ≢ 0 → queue_parts number
 queue_parts-after zero n after = absurd (after refl)
 queue_parts-after (suc number) n after = refl
 
+-- a number before those that follow it gives the range from it on
 pub range_one_more : (number n : ℕ) → number < n → number ∷ range_with_len (number + 1) (n - (number + 1)) ≡ range_with_len number (n - number)
 range_one_more number n lt =
     let m = n - (number + 1) in
     let more : n - number ≡ suc m = omega arith in
     rw more refl
+
+-- the numbers of the lanes that are made, with one lane more before them
+pub numbers_more : (number k n m : ℕ) (ns : List ℕ) → number + 1 ≡ k → number < n → number ≡ m → ns ≡ range_with_len k (n - k)
+    → number ∷ ns ≡ range_with_len m (n - m)
+numbers_more number k n m ns before lt same is =
+    ap (λ l. number ∷ l) is ∙ ap (λ j. number ∷ range_with_len j (n - j)) (sym before) ∙ range_one_more number n lt
+    ∙ ap (λ j. range_with_len j (n - j)) same
 
 -- the numbers of all lanes, once the first is there
 pub all_numbers : (n : ℕ) → 0 < n → 0 ∷ range_with_len 1 (n - 1) ≡ range_with_len 0 n

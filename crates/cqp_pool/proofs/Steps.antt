@@ -12,12 +12,15 @@ use Rattle.cqp_pool.specs.Tallies.{tally, new_tally, PartlessAreEmpty, IsAccount
 use Rattle.cqp_pool.specs.Tallies.{Covers, IsDrained}
 use Rattle.cqp_pool.proofs.Sums.{sum_by-set_at, sum_by-snoc, sum_by_of_one}
 
+-- how many parts a pass has
 abbrev parts : Tally → ℕ
 parts t = t.parts
 
+-- what was pushed by a pass, as a weight
 abbrev pushed : (ℕ → ℕ) → Tally → ℕ
 pushed weight t = sum_by weight t.pushed
 
+-- what was taken by a pass, as a weight
 abbrev taken : (ℕ → ℕ) → Tally → ℕ
 taken weight t = sum_by weight t.taken
 
@@ -25,22 +28,27 @@ taken weight t = sum_by weight t.taken
 abbrev IsIdle : Tally → Type 0
 IsIdle t = t.parts ≡ 0 → (t.pushed ≡ []) × (t.taken ≡ [])
 
+-- a pass that is found is one of them
 port_in_range : (ts : List Tally) (port : ℕ) (t : Tally) → get_elem? ts port ≡ some t → port < length ts
 port_in_range [] port t is = absurd (some-ne-none t (sym is))
 port_in_range (x ∷ xs) zero t is = omega arith
 port_in_range (x ∷ xs) (suc port) t is = let rest = port_in_range xs port t is in omega arith
 
+-- an idle pass in the place of another leaves those without a part idle
 partless_set : (ts : List Tally) (port : ℕ) (t : Tally) → IsIdle t → PartlessAreEmpty ts → PartlessAreEmpty (set ts port t)
 partless_set ts port t mine old j u is =
     ⊎_elim (λ (x : (j ≡ port) × (t ≡ u)). subst IsIdle x.1 mine) (λ (x : (j ≢ port) × (get_elem? ts j ≡ some u)). old j u x.1) (at_set ts port j t u is)
 
+-- an idle pass at the end leaves those without a part idle
 partless_snoc : (ts : List Tally) (t : Tally) → IsIdle t → PartlessAreEmpty ts → PartlessAreEmpty (ts ++ t ∷ [])
 partless_snoc ts t mine old j u is = ⊎_elim (λ x. old j u x) (λ (same : t ≡ u). subst IsIdle same mine) (at_snoc ts t u j is)
 
 module _ {T : Type 0} (number : T → ℕ) where
+  -- what all passes together know of the items there
   abbrev pub Rule : List T → List Tally → Type 0
   Rule items ts = IsAccounted (map number items) ts
 
+  -- items of two lists weigh as much as both lists
   weigh-append : (weight : ℕ → ℕ) (xs ys : List T) → sum_by weight (map number (xs ++ ys)) ≡ sum_by weight (map number xs) + sum_by weight (map number ys)
   weigh-append weight [] ys = omega arith
   weigh-append weight (x ∷ xs) ys =
@@ -100,6 +108,7 @@ module _ {T : Type 0} (number : T → ℕ) where
   pub finds : (port : ℕ) (t : Tally) → Finds Rule port t (WasEmpty t)
   finds port t ts rule at = record { tallies = ts; port = port; accounted = rule; known = at }
 
+  -- the same of a step that finds too few, which is none
   pub finds_few : (port : ℕ) (t : Tally) → FindsFew Rule 0 port t (WasEmpty t)
   finds_few port t [] ts few rule at = finds port t ts rule at
   finds_few port t (x ∷ xs) ts few rule at = absurd (omega arith)
@@ -172,6 +181,7 @@ module _ {T : Type 0} (number : T → ℕ) where
   pub finds_drained : (port : ℕ) (t : Tally) → t.parts ≡ 1024 → Finds (Rule number) port t (IsDrained t)
   finds_drained port t all ts rule at weight = let r = knows_all t [] ts port all rule at weight in omega arith
 
+  -- the same of a step that finds too few, which is none
   pub finds_few_drained : (port : ℕ) (t : Tally) → t.parts ≡ 1024 → FindsFew (Rule number) 0 port t (IsDrained t)
   finds_few_drained port t all [] ts few rule at = finds_drained port t all ts rule at
   finds_few_drained port t all (x ∷ xs) ts few rule at = absurd (omega arith)

@@ -20,6 +20,7 @@ zip_from_end (o ∷ os) rs zero a b = absurd (omega arith)
 zip_from_end (o ∷ os) [] (suc m) a b = refl
 zip_from_end (o ∷ os) (r ∷ rs) (suc m) a b = ap (λ l. o ∷ l) (zip_from_end os rs m (omega arith) (omega arith))
 
+-- the owner that comes next in the walk hasn't changed
 pub get_or-zip_from : (m : ℕ) (os : List Owned) (rs : List Reached) (d : Owned) → m < length rs → get_or (zip_from (suc m) os rs) m d ≡ get_or os m d
 get_or-zip_from m [] rs d in_range = refl
 get_or-zip_from m (o ∷ os) [] d in_range = refl
@@ -37,28 +38,34 @@ set-zip_from zero (o ∷ os) (r ∷ rs) d e in_rows in_owns = first o r os rs
     first o r os rs = refl
 set-zip_from (suc m) (o ∷ os) (r ∷ rs) d e in_rows in_owns = ap (λ l. o ∷ l) (set-zip_from m os rs d e (omega arith) (omega arith))
 
+-- the deque at a place is where that place's way leads
 pub get_or-deques_of : (rs : List Reached) (k : ℕ) (r : Reached) → get_or (deques_of rs) k r.deque ≡ (get_or rs k r).deque
 get_or-deques_of [] k r = refl
 get_or-deques_of (x ∷ xs) zero r = refl
 get_or-deques_of (x ∷ xs) (suc k) r = get_or-deques_of xs k r
 
+-- there are as many deques as ways
 pub length-deques_of : (rs : List Reached) → length (deques_of rs) ≡ length rs
 length-deques_of [] = refl
 length-deques_of (x ∷ xs) = ap suc (length-deques_of xs)
 
 module _ {X : Type 0} where
+  -- the first m of the first m + 1 are the first m
   take-take-suc : (m : ℕ) (xs : List X) → take m (take (suc m) xs) ≡ take m xs
   take-take-suc zero xs = refl
   take-take-suc (suc m) [] = refl
   take-take-suc (suc m) (x ∷ xs) = ap (λ l. x ∷ l) (take-take-suc m xs)
 
+-- a row that leads to the deques of these owners has a way for each
 pub same_length : (os : List Owned) (rs : List Reached) → deques_of rs ≡ deques_in os → length rs ≡ length os
 same_length os rs lead = sym (length-deques_of rs) ∙ ap length lead ∙ length-deques_in os
 
 module _ (os : List Owned) (rs : List Reached) (lead : deques_of rs ≡ deques_in os) (k m : ℕ) (next : m + 1 ≡ k) (in_owns : m < length os) where
+  -- the place is the one before the last
   suc_is : k ≡ suc m
   suc_is = omega arith
 
+  -- it is one of the ways
   in_rows : m < length rs
   in_rows = let same = same_length os rs lead in omega arith
 
@@ -77,6 +84,7 @@ module _ (os : List Owned) (rs : List Reached) (lead : deques_of rs ≡ deques_i
       ap (λ (x : Reached). x.deque) here ∙ sym (get_or-deques_of rs m r) ∙ ap (λ l. get_or l m r.deque) lead
       ∙ get_or_default (deques_in os) m r.deque d.deque in_ids ∙ get_or-deques_in os m d ∙ sym (ap (λ (o : Owned). o.deque) (last_owner owns d is))
 
+  -- the owner that takes the last way in is the next step of the walk
   pub one_way_more : (owns : List Owned) (d o : Owned) (r : Reached) → owns ≡ zip_from k os rs → r ≡ get_or rs m r → o ≡ takes_in (get_or owns m d) r
       → set owns m o ≡ zip_from m os rs
   one_way_more owns d o r is here changed =
@@ -85,5 +93,6 @@ module _ (os : List Owned) (rs : List Reached) (lead : deques_of rs ≡ deques_i
       ap (λ l. set l m o) is ∙ ap (λ n. set (zip_from n os rs) m o) suc_is ∙ ap (λ x. set (zip_from (suc m) os rs) m x) o_is
       ∙ set-zip_from m os rs d r in_rows in_owns
 
+  -- the ways left are those before it
   pub one_way_less : (row row' : List Reached) → row ≡ take k rs → row' ≡ take m row → row' ≡ take m rs
   one_way_less row row' left rest = rest ∙ ap (λ l. take m l) left ∙ ap (λ n. take m (take n rs)) suc_is ∙ take-take-suc m rs

@@ -19,6 +19,3 @@ pub use lane::{Lane, PushRefused};
 pub use lanes::Lanes;
 pub use numbered::Numbered;
 pub use pool::{NoMemory, Pool};
-
-#[cfg(test)]
-mod tests;

@@ -3,13 +3,14 @@ use Rattle.std.proofs.Common.{◌≡◌, ℕ, ◌+◌, ◌≤◌, [], ◌∷◌,
 use Rattle.std.proofs.Common.{length-append, arith}
 use Rattle.cqp_postorder.specs.Subtrees.{Subtree, over, Subtrees, no_parts, part_and, length_of}
 use Rattle.cqp_postorder.specs.Subtrees.{size_of, sizes_of, nodes_of, all_nodes_of, offsets_of}
-use Rattle.cqp_postorder.specs.Subtrees.{all_offsets_of, pieces_of, all_pieces_of, numbers_of}
+use Rattle.cqp_postorder.specs.Subtrees.{all_offsets_of, fragments_of, all_fragments_of, numbers_of}
 
 mutual
   -- a subtree has as many nodes as its size says
   pub length-nodes_of : (n : ℕ) (t : Subtree) → length (nodes_of n t) ≡ size_of t
   length-nodes_of n (over k at ts) = omega (arith, length-all_nodes_of (n + 1) ts)
 
+  -- subtrees have as many nodes as their sizes say
   pub length-all_nodes_of : (n : ℕ) (ts : Subtrees) → length (all_nodes_of n ts) ≡ sizes_of ts
   length-all_nodes_of n no_parts = refl
   length-all_nodes_of n (part_and t ts) =
@@ -22,22 +23,23 @@ mutual
 
 mutual
   -- and as many fragments
-  pub length-pieces_of : (t : Subtree) → length (pieces_of t) ≡ size_of t
-  length-pieces_of (over k at ts) =
+  pub length-fragments_of : (t : Subtree) → length (fragments_of t) ≡ size_of t
+  length-fragments_of (over k at ts) =
       omega (
         arith,
-        length-append (all_pieces_of ts) ((record { kind = k; at = at }) ∷ []),
-        length-all_pieces_of ts,
+        length-append (all_fragments_of ts) ((record { kind = k; at = at }) ∷ []),
+        length-all_fragments_of ts,
       )
 
-  pub length-all_pieces_of : (ts : Subtrees) → length (all_pieces_of ts) ≡ sizes_of ts
-  length-all_pieces_of no_parts = refl
-  length-all_pieces_of (part_and t ts) =
+  -- subtrees have as many fragments as their sizes say
+  pub length-all_fragments_of : (ts : Subtrees) → length (all_fragments_of ts) ≡ sizes_of ts
+  length-all_fragments_of no_parts = refl
+  length-all_fragments_of (part_and t ts) =
       omega (
         arith,
-        length-append (pieces_of t) (all_pieces_of ts),
-        length-pieces_of t,
-        length-all_pieces_of ts,
+        length-append (fragments_of t) (all_fragments_of ts),
+        length-fragments_of t,
+        length-all_fragments_of ts,
       )
 
 mutual
@@ -45,6 +47,7 @@ mutual
   pub length-offsets_of : (t : Subtree) → length (offsets_of t) ≡ size_of t
   length-offsets_of (over k at ts) = omega (arith, length-all_offsets_of ts)
 
+  -- subtrees have as many offsets as their sizes say
   pub length-all_offsets_of : (ts : Subtrees) → length (all_offsets_of ts) ≡ sizes_of ts
   length-all_offsets_of no_parts = refl
   length-all_offsets_of (part_and t ts) =

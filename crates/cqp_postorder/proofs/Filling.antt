@@ -4,10 +4,10 @@ use Rattle.std.proofs.Common.{replicate, refl, sym, ◌∙◌, ap, append_assoc,
 use Rattle.std.proofs.Common.{length-append, arith}
 use Rattle.std.proofs.lemmas.List.{set_comm, set_at}
 use Rattle.cqp_postorder.specs.Subtrees.{Subtree, Subtrees, no_parts, part_and, length_of, size_of}
-use Rattle.cqp_postorder.specs.Subtrees.{sizes_of, numbers_of, pieces_of, all_pieces_of}
-use Rattle.cqp_postorder.specs.Subtrees.{piece_sizes, all_piece_sizes, AreCounted}
+use Rattle.cqp_postorder.specs.Subtrees.{sizes_of, numbers_of, fragments_of, all_fragments_of}
+use Rattle.cqp_postorder.specs.Subtrees.{fragment_sizes, all_fragment_sizes, AreCounted}
 use Rattle.cqp_postorder.specs.Subtrees.{Pending, behind, pending_count, pending_numbers}
-use Rattle.cqp_postorder.specs.Subtrees.{pending_pieces, pending_sizes, AreAdjacent}
+use Rattle.cqp_postorder.specs.Subtrees.{pending_fragments, pending_sizes, AreAdjacent}
 use Rattle.cqp_postorder.specs.Placing.{written, filled, ArePlaced}
 
 -- two lists of items are written one after another
@@ -67,20 +67,20 @@ pending_numbers-spread ps n (part_and t ts) =
     ∙ append_assoc (pending_numbers ps) (n ∷ []) (numbers_of (n + size_of t) ts)
 
 -- their fragments
-pub pending_pieces-spread : (ps : Pending) (n : ℕ) (ts : Subtrees)
-    → pending_pieces (spread ps n ts) ≡ pending_pieces ps ++ all_pieces_of ts
-pending_pieces-spread ps n no_parts = sym (append-nil (pending_pieces ps))
-pending_pieces-spread ps n (part_and t ts) =
-    pending_pieces-spread (behind ps n t) (n + size_of t) ts
-    ∙ append_assoc (pending_pieces ps) (pieces_of t) (all_pieces_of ts)
+pub pending_fragments-spread : (ps : Pending) (n : ℕ) (ts : Subtrees)
+    → pending_fragments (spread ps n ts) ≡ pending_fragments ps ++ all_fragments_of ts
+pending_fragments-spread ps n no_parts = sym (append-nil (pending_fragments ps))
+pending_fragments-spread ps n (part_and t ts) =
+    pending_fragments-spread (behind ps n t) (n + size_of t) ts
+    ∙ append_assoc (pending_fragments ps) (fragments_of t) (all_fragments_of ts)
 
 -- the sizes of these
 pub pending_sizes-spread : (ps : Pending) (n : ℕ) (ts : Subtrees)
-    → pending_sizes (spread ps n ts) ≡ pending_sizes ps ++ all_piece_sizes ts
+    → pending_sizes (spread ps n ts) ≡ pending_sizes ps ++ all_fragment_sizes ts
 pending_sizes-spread ps n no_parts = sym (append-nil (pending_sizes ps))
 pending_sizes-spread ps n (part_and t ts) =
     pending_sizes-spread (behind ps n t) (n + size_of t) ts
-    ∙ append_assoc (pending_sizes ps) (piece_sizes t) (all_piece_sizes ts)
+    ∙ append_assoc (pending_sizes ps) (fragment_sizes t) (all_fragment_sizes ts)
 
 -- they are adjacent
 pub adjacent_spread : (ps : Pending) (n end : ℕ) (ts : Subtrees) → n + sizes_of ts ≡ end

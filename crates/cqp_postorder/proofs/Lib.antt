@@ -1,6 +1,5 @@
 mod Counts
 mod Filling
-mod ListExamples
 mod Parts
 mod Placed
 mod Sizing

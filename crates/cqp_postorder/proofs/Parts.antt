@@ -4,28 +4,29 @@ use Rattle.std.proofs.Common.{refl, sym, ◌∙◌, ap, subst, append_assoc, app
 use Rattle.std.proofs.Common.{arith, reverse}
 use Rattle.std.proofs.lemmas.List.{get_or_push, take_at, reverse-append}
 use Rattle.cqp_postorder.specs.Subtrees.{Subtree, over, Subtrees, no_parts, part_and, size_of}
-use Rattle.cqp_postorder.specs.Subtrees.{sizes_of, piece_sizes, all_piece_sizes, Pending, nothing}
+use Rattle.cqp_postorder.specs.Subtrees.{sizes_of, fragment_sizes, all_fragment_sizes, Pending, nothing}
 use Rattle.cqp_postorder.specs.Subtrees.{behind, pending_numbers, pending_sizes, AreAdjacent}
 use Rattle.cqp_postorder.specs.Subtrees.{AreLast, IsLastSize}
 
 mutual
   -- a subtree has as many sizes of fragments as its own size says
-  pub length-piece_sizes : (t : Subtree) → length (piece_sizes t) ≡ size_of t
-  length-piece_sizes (over k at ts) =
+  pub length-fragment_sizes : (t : Subtree) → length (fragment_sizes t) ≡ size_of t
+  length-fragment_sizes (over k at ts) =
       omega (
         arith,
-        length-append (all_piece_sizes ts) ((1 + sizes_of ts) ∷ []),
-        length-all_piece_sizes ts,
+        length-append (all_fragment_sizes ts) ((1 + sizes_of ts) ∷ []),
+        length-all_fragment_sizes ts,
       )
 
-  pub length-all_piece_sizes : (ts : Subtrees) → length (all_piece_sizes ts) ≡ sizes_of ts
-  length-all_piece_sizes no_parts = refl
-  length-all_piece_sizes (part_and t ts) =
+  -- subtrees have as many sizes of fragments as their sizes say
+  pub length-all_fragment_sizes : (ts : Subtrees) → length (all_fragment_sizes ts) ≡ sizes_of ts
+  length-all_fragment_sizes no_parts = refl
+  length-all_fragment_sizes (part_and t ts) =
       omega (
         arith,
-        length-append (piece_sizes t) (all_piece_sizes ts),
-        length-piece_sizes t,
-        length-all_piece_sizes ts,
+        length-append (fragment_sizes t) (all_fragment_sizes ts),
+        length-fragment_sizes t,
+        length-all_fragment_sizes ts,
       )
 
 -- of these subtrees some are left, and the numbers of the others are found, the last first
@@ -60,6 +61,7 @@ read_last sizes front last e =
     omega (arith, ap length e, length-append front (last ∷ [])) in
     ap (λ l. get_or l (length sizes - 1) 0) e ∙ get_or_push front last 0 (length sizes - 1) place
 
+-- of the last complete subtrees, the next part is the last, by its size
 step_at : (whole : Pending) (rest : List ℕ) (number left : ℕ) (found : List ℕ) (size : ℕ)
     (ps : Pending)
     → AreLast rest number left ps
@@ -68,7 +70,7 @@ step_at : (whole : Pending) (rest : List ℕ) (number left : ℕ) (found : List 
 step_at whole rest number left found size nothing last numbers some is =
     absurd (omega (arith, last.counted))
 step_at whole rest number left found size (behind ps n (over k at ts)) last numbers some is =
-    let own = all_piece_sizes ts in
+    let own = all_fragment_sizes ts in
     let front = last.before ++ pending_sizes ps in
     let root = 1 + sizes_of ts in
     let whole_is : rest ≡ front ++ (own ++ root ∷ []) =
@@ -78,7 +80,7 @@ step_at whole rest number left found size (behind ps n (over k at ts)) last numb
     let sized : size ≡ 1 + sizes_of ts = is (front ++ own) root split in
     let long : length rest ≡ length front + length (own ++ root ∷ []) =
     ap length whole_is ∙ length-append front (own ++ root ∷ []) in
-    let own_long : length (own ++ root ∷ []) ≡ 1 + sizes_of ts = length-piece_sizes (over k at ts) in
+    let own_long : length (own ++ root ∷ []) ≡ 1 + sizes_of ts = length-fragment_sizes (over k at ts) in
     let ends_at : n + (1 + sizes_of ts) ≡ number = last.adjacent.0 in
     let starts : n ≡ number - size = omega arith in
     let place : length front ≡ length rest - size = omega arith in
@@ -106,18 +108,19 @@ pub part_step : (whole : Pending) (rest : List ℕ) (number left : ℕ) (found :
 part_step whole rest number left found size w some is =
     step_at whole rest number left found size w.ps w.last w.numbers some is
 
+-- while a part is left, a size is left
 some_at : (rest : List ℕ) (number left : ℕ) (ps : Pending) → AreLast rest number left ps → 0 < left
     → 0 < length rest
 some_at rest number left nothing last some = absurd (omega (arith, last.counted))
 some_at rest number left (behind ps n (over k at ts)) last some =
     let t = over k at ts in
-    let own = length-append (pending_sizes ps) (piece_sizes t) in
+    let own = length-append (pending_sizes ps) (fragment_sizes t) in
     omega (
       arith,
       ap length last.are,
-      length-append last.before (pending_sizes ps ++ piece_sizes t),
+      length-append last.before (pending_sizes ps ++ fragment_sizes t),
       own,
-      length-piece_sizes t,
+      length-fragment_sizes t,
     )
 
 -- where one is left, there is a size
@@ -125,6 +128,7 @@ pub part_some : (whole : Pending) (rest : List ℕ) (number left : ℕ) (found :
     → Walked whole rest number left found → 0 < left → 0 < length rest
 part_some whole rest number left found w some = some_at rest number left w.ps w.last some
 
+-- where no part is left, all numbers are found
 all_at : (whole : Pending) (rest : List ℕ) (number : ℕ) (found : List ℕ) (ps : Pending)
     → AreLast rest number 0 ps
     → pending_numbers whole ≡ pending_numbers ps ++ reverse found

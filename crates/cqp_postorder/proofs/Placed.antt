@@ -4,31 +4,31 @@ use Rattle.std.proofs.Common.{replicate, refl, sym, ◌∙◌, ap, subst, append
 use Rattle.std.proofs.Common.{length-set, arith}
 use Rattle.std.proofs.lemmas.List.{length-replicate, same_from_push}
 use Rattle.cqp_program.specs.declared.tree.TreeNode.{TreeNode}
-use Rattle.cqp_postorder.specs.declared.fragment.Fragment.{Fragment}
+use Rattle.cqp_program.specs.declared.fragment.Fragment.{Fragment}
 use Rattle.cqp_postorder.specs.Subtrees.{part_count, node_with, Subtree, over}
 use Rattle.cqp_postorder.specs.Subtrees.{length_of, size_of, sizes_of, numbers_of}
 use Rattle.cqp_postorder.specs.Subtrees.{nodes_of, all_nodes_of, offsets_of, all_offsets_of}
-use Rattle.cqp_postorder.specs.Subtrees.{pieces_of, all_pieces_of, piece_sizes, all_piece_sizes}
+use Rattle.cqp_postorder.specs.Subtrees.{fragments_of, all_fragments_of, fragment_sizes, all_fragment_sizes}
 use Rattle.cqp_postorder.specs.Subtrees.{IsCounted, Pending, nothing, behind}
-use Rattle.cqp_postorder.specs.Subtrees.{pending_numbers, pending_pieces}
+use Rattle.cqp_postorder.specs.Subtrees.{pending_numbers, pending_fragments}
 use Rattle.cqp_postorder.specs.Subtrees.{pending_sizes, AreLast}
 use Rattle.cqp_postorder.specs.Placing.{written, filled, offsets_from, ArePlaced, PlacesRest}
 use Rattle.cqp_postorder.specs.Placing.{PlacesNode}
-use Rattle.cqp_postorder.proofs.Parts.{length-piece_sizes}
+use Rattle.cqp_postorder.proofs.Parts.{length-fragment_sizes}
 use Rattle.cqp_postorder.proofs.Filling.{written-set, written_whole, spread}
 use Rattle.cqp_postorder.proofs.Filling.{pending_count-spread, pending_numbers-spread}
-use Rattle.cqp_postorder.proofs.Filling.{pending_pieces-spread, pending_sizes-spread}
+use Rattle.cqp_postorder.proofs.Filling.{pending_fragments-spread, pending_sizes-spread}
 use Rattle.cqp_postorder.proofs.Filling.{adjacent_spread, placed_spread, filled-spread}
-use Rattle.cqp_postorder.proofs.Counts.{length-nodes_of, length-pieces_of, length-offsets_of}
+use Rattle.cqp_postorder.proofs.Counts.{length-nodes_of, length-fragments_of, length-offsets_of}
 use Rattle.cqp_postorder.proofs.Counts.{length_within_sizes, length-numbers_of}
 
 -- at first the whole tree is pending
 pub whole_pending : (t : Subtree) (left : List Fragment) (sizes : List ℕ) (n : ℕ)
-    (node : TreeNode) → IsCounted t → left ≡ pieces_of t → sizes ≡ piece_sizes t
+    (node : TreeNode) → IsCounted t → left ≡ fragments_of t → sizes ≡ fragment_sizes t
     → n ≡ length left → n < 2 ^ 31
     → PlacesRest t left sizes (0 ∷ []) (replicate n node) (replicate n 0)
 whole_pending t left sizes n node counted e f many few =
-    let size : n ≡ size_of t = omega (arith, ap length e, length-pieces_of t) in
+    let size : n ≡ size_of t = omega (arith, ap length e, length-fragments_of t) in
     record {
       rest = behind nothing 0 t;
       fragments = e;
@@ -41,8 +41,9 @@ whole_pending t left sizes n node counted e f many few =
       few = omega (arith, length-replicate n node);
     }
 
+-- where no fragment is left, the lists are those of the tree
 all_at : (t : Subtree) (nodes : List TreeNode) (offsets : List ℕ) (rest : Pending)
-    → [] ≡ pending_pieces rest → filled nodes_of rest nodes ≡ nodes_of 0 t
+    → [] ≡ pending_fragments rest → filled nodes_of rest nodes ≡ nodes_of 0 t
     → filled offsets_from rest offsets ≡ offsets_of t
     → (nodes ≡ nodes_of 0 t) × (offsets ≡ offsets_of t)
 all_at t nodes offsets nothing e f g = (f, g)
@@ -50,8 +51,8 @@ all_at t nodes offsets (behind ps n (over k at ts)) e f g =
     absurd (omega (
       arith,
       ap length e,
-      length-append (pending_pieces ps) (pieces_of (over k at ts)),
-      length-pieces_of (over k at ts),
+      length-append (pending_fragments ps) (fragments_of (over k at ts)),
+      length-fragments_of (over k at ts),
     ))
 
 -- where no fragment is left, the lists are those of the tree
@@ -67,8 +68,9 @@ pub record OneLeft (x : Fragment) (sizes numbers : List ℕ) (count : ℕ) : Typ
   pub some_number : 0 < length numbers
   pub few_parts : part_count x.kind < count
 
+-- a fragment that is left has a size and a number
 one_left_at : (left : List Fragment) (x : Fragment) (sizes numbers : List ℕ) (count : ℕ)
-    (rest : Pending) → left ++ x ∷ [] ≡ pending_pieces rest → sizes ≡ pending_sizes rest
+    (rest : Pending) → left ++ x ∷ [] ≡ pending_fragments rest → sizes ≡ pending_sizes rest
     → numbers ≡ pending_numbers rest → ArePlaced count rest → OneLeft x sizes numbers count
 one_left_at left x sizes numbers count nothing e f g placed =
     absurd (omega (arith, ap length e, length-append left (x ∷ [])))
@@ -76,8 +78,8 @@ one_left_at left x sizes numbers count (behind ps n (over k at ts)) e f g placed
     let t = over k at ts in
     let root : Fragment = record { kind = k; at = at } in
     let split =
-    same_from_push left (pending_pieces ps ++ all_pieces_of ts) x root
-    (e ∙ sym (append_assoc (pending_pieces ps) (all_pieces_of ts) (root ∷ []))) in
+    same_from_push left (pending_fragments ps ++ all_fragments_of ts) x root
+    (e ∙ sym (append_assoc (pending_fragments ps) (all_fragments_of ts) (root ∷ []))) in
     let parts : part_count x.kind ≡ length_of ts =
     ap (λ y. part_count y.kind) split.1 ∙ sym placed.1.0 in
     record {
@@ -85,13 +87,14 @@ one_left_at left x sizes numbers count (behind ps n (over k at ts)) e f g placed
           omega (
             arith,
             ap length f,
-            length-append (pending_sizes ps) (piece_sizes t),
-            length-piece_sizes t,
+            length-append (pending_sizes ps) (fragment_sizes t),
+            length-fragment_sizes t,
           );
       some_number = omega (arith, ap length g, length-append (pending_numbers ps) (n ∷ []));
       few_parts = omega (arith, placed.0, length_within_sizes ts);
     }
 
+-- a fragment that is left has a size and a number that is in range
 pub one_left : (t : Subtree) (left : List Fragment) (x : Fragment) (sizes numbers : List ℕ)
     (nodes : List TreeNode) (offsets : List ℕ)
     → PlacesRest t (left ++ x ∷ []) sizes numbers nodes offsets
@@ -106,9 +109,10 @@ pub record Taken (t : Subtree) (left : List Fragment) (x : Fragment) (size n : �
   pub node : PlacesNode t left x n found sizes numbers nodes offsets
   pub whole : size ≡ 1 + sizes_of node.parts
 
+-- the fragment that is taken is the root of the last subtree that is left
 taken_at : (t : Subtree) (left : List Fragment) (x : Fragment) (size n : ℕ)
     (sizes numbers : List ℕ) (nodes : List TreeNode) (offsets : List ℕ) (rest : Pending)
-    → left ++ x ∷ [] ≡ pending_pieces rest → sizes ++ size ∷ [] ≡ pending_sizes rest
+    → left ++ x ∷ [] ≡ pending_fragments rest → sizes ++ size ∷ [] ≡ pending_sizes rest
     → numbers ++ n ∷ [] ≡ pending_numbers rest → filled nodes_of rest nodes ≡ nodes_of 0 t
     → filled offsets_from rest offsets ≡ offsets_of t → ArePlaced (length nodes) rest
     → length offsets ≡ length nodes → length nodes < 2 ^ 31
@@ -120,11 +124,11 @@ taken_at t left x size n sizes numbers nodes offsets (behind ps m (over k at ts)
     let root : Fragment = record { kind = k; at = at } in
     let whole = 1 + sizes_of ts in
     let split =
-    same_from_push left (pending_pieces ps ++ all_pieces_of ts) x root
-    (e ∙ sym (append_assoc (pending_pieces ps) (all_pieces_of ts) (root ∷ []))) in
+    same_from_push left (pending_fragments ps ++ all_fragments_of ts) x root
+    (e ∙ sym (append_assoc (pending_fragments ps) (all_fragments_of ts) (root ∷ []))) in
     let size_split =
-    same_from_push sizes (pending_sizes ps ++ all_piece_sizes ts) size whole
-    (sized ∙ sym (append_assoc (pending_sizes ps) (all_piece_sizes ts) (whole ∷ []))) in
+    same_from_push sizes (pending_sizes ps ++ all_fragment_sizes ts) size whole
+    (sized ∙ sym (append_assoc (pending_sizes ps) (all_fragment_sizes ts) (whole ∷ []))) in
     let number_split = same_from_push numbers (pending_numbers ps) n m numbered in
     subst (λ y. Taken t left y size n sizes numbers nodes offsets) (sym split.1)
     (subst (λ l. Taken t left root size l sizes numbers nodes offsets) (sym number_split.1)
@@ -225,7 +229,7 @@ module _ (t : Subtree) (left : List Fragment) (x : Fragment) (n : ℕ)
       written-set next n (all_offsets_of p.parts) offsets x.at (omega arith) in
       record {
         rest = spread p.rest next p.parts;
-        fragments = p.fragments ∙ sym (pending_pieces-spread p.rest next p.parts);
+        fragments = p.fragments ∙ sym (pending_fragments-spread p.rest next p.parts);
         sized = p.sized ∙ sym (pending_sizes-spread p.rest next p.parts);
         numbered =
             ap (λ xs. xs ++ found) p.numbered

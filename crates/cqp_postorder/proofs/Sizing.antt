@@ -5,15 +5,16 @@ use Rattle.std.proofs.Common.{length-append, arith}
 use Rattle.std.specs.Prelude.{sum}
 use Rattle.std.proofs.lemmas.List.{take_at, drop_at, length-take-le, drop_all, drop_more}
 use Rattle.std.proofs.lemmas.List.Sums.{sum_by_push, sum_by-cons, sum_by-take-drop}
-use Rattle.cqp_postorder.specs.declared.fragment.Fragment.{Fragment}
+use Rattle.cqp_program.specs.declared.fragment.Fragment.{Fragment}
 use Rattle.cqp_postorder.specs.Subtrees.{part_count, Subtree, over, Subtrees, no_parts, part_and}
-use Rattle.cqp_postorder.specs.Subtrees.{length_of, size_of, sizes_of, pieces_of, all_pieces_of}
-use Rattle.cqp_postorder.specs.Subtrees.{piece_sizes, all_piece_sizes, IsCounted, AreCounted}
+use Rattle.cqp_postorder.specs.Subtrees.{length_of, size_of, sizes_of, fragments_of, all_fragments_of}
+use Rattle.cqp_postorder.specs.Subtrees.{fragment_sizes, all_fragment_sizes, IsCounted, AreCounted}
 
 -- so many are the last of these sizes, which are kept otherwise
 abbrev pub kept : ℕ → List ℕ → List ℕ
 kept count complete = take (length complete - count) complete
 
+-- the sum of the last sizes, so many
 abbrev pub last_sum : ℕ → List ℕ → ℕ
 last_sum count complete = sum (drop (length complete - count) complete)
 
@@ -36,40 +37,43 @@ AreReady many (x ∷ xs) = (part_count x.kind ≤ many) × AreReady (many - part
 mutual
   -- the fragments of a tree leave one subtree more
   ready_tree : (t : Subtree) (many : ℕ) (rest : List Fragment) → IsCounted t
-      → AreReady (many + 1) rest → AreReady many (pieces_of t ++ rest)
+      → AreReady (many + 1) rest → AreReady many (fragments_of t ++ rest)
   ready_tree (over k at ts) many rest counted h =
       let own : Fragment = record { kind = k; at = at } in
       let fits : part_count k ≤ many + length_of ts = omega (arith, counted.0) in
       let left : many + 1 ≡ many + length_of ts - part_count k + 1 = omega (arith, counted.0) in
-      subst (λ l. AreReady many l) (sym (append_assoc (all_pieces_of ts) (own ∷ []) rest))
+      subst (λ l. AreReady many l) (sym (append_assoc (all_fragments_of ts) (own ∷ []) rest))
       (ready_trees ts many (own ∷ rest) counted.1 (fits, subst (λ n. AreReady n rest) left h))
 
+  -- behind subtrees, so many more are complete
   ready_trees : (ts : Subtrees) (many : ℕ) (rest : List Fragment) → AreCounted ts
       → AreReady (many + length_of ts) rest
-      → AreReady many (all_pieces_of ts ++ rest)
+      → AreReady many (all_fragments_of ts ++ rest)
   ready_trees no_parts many rest counted h =
       let same : many + 0 ≡ many = omega arith in subst (λ n. AreReady n rest) same h
   ready_trees (part_and t ts) many rest counted h =
       let next : many + (1 + length_of ts) ≡ many + 1 + length_of ts = omega arith in
-      subst (λ l. AreReady many l) (sym (append_assoc (pieces_of t) (all_pieces_of ts) rest))
-      (ready_tree t many (all_pieces_of ts ++ rest) counted.0
+      subst (λ l. AreReady many l) (sym (append_assoc (fragments_of t) (all_fragments_of ts) rest))
+      (ready_tree t many (all_fragments_of ts ++ rest) counted.0
       (ready_trees ts (many + 1) rest counted.1 (subst (λ n. AreReady n rest) next h)))
 
 -- so the fragments of a whole tree are ready
-pub ready_whole : (t : Subtree) (fragments : List Fragment) → IsCounted t → fragments ≡ pieces_of t
+pub ready_whole : (t : Subtree) (fragments : List Fragment) → IsCounted t → fragments ≡ fragments_of t
     → AreReady 0 fragments
 ready_whole t fragments counted e =
-    subst (λ l. AreReady 0 l) (append-nil (pieces_of t) ∙ sym e) (ready_tree t 0 [] counted tt)
+    subst (λ l. AreReady 0 l) (append-nil (fragments_of t) ∙ sym e) (ready_tree t 0 [] counted tt)
 
 -- the sizes of parts
 abbrev part_sizes : Subtrees → List ℕ
 part_sizes no_parts = []
 part_sizes (part_and t ts) = size_of t ∷ part_sizes ts
 
+-- there is a size for each subtree
 length-part_sizes : (ts : Subtrees) → length (part_sizes ts) ≡ length_of ts
 length-part_sizes no_parts = refl
 length-part_sizes (part_and t ts) = omega (arith, length-part_sizes ts)
 
+-- the sizes add up to those of the subtrees
 sum-part_sizes : (ts : Subtrees) → sum (part_sizes ts) ≡ sizes_of ts
 sum-part_sizes no_parts = refl
 sum-part_sizes (part_and t ts) =
@@ -89,8 +93,8 @@ closed_own count complete ts many =
 mutual
   -- the fragments of a tree have its sizes, and leave it complete
   sizes_tree : (t : Subtree) (complete : List ℕ) (rest : List Fragment) → IsCounted t
-      → sizes_from complete (pieces_of t ++ rest)
-      ≡ piece_sizes t ++ sizes_from (complete ++ size_of t ∷ []) rest
+      → sizes_from complete (fragments_of t ++ rest)
+      ≡ fragment_sizes t ++ sizes_from (complete ++ size_of t ∷ []) rest
   sizes_tree (over k at ts) complete rest counted =
       let own : Fragment = record { kind = k; at = at } in
       let whole = 1 + sizes_of ts in
@@ -98,34 +102,35 @@ mutual
       let closes = closed_own (part_count k) complete ts counted.0 in
       let last : sizes_from behind (own ∷ rest) ≡ whole ∷ sizes_from (complete ++ whole ∷ []) rest =
       rw (closes.0, closes.1) refl in
-      ap (sizes_from complete) (append_assoc (all_pieces_of ts) (own ∷ []) rest)
+      ap (sizes_from complete) (append_assoc (all_fragments_of ts) (own ∷ []) rest)
       ∙ sizes_trees ts complete (own ∷ rest) counted.1
-      ∙ ap (λ l. all_piece_sizes ts ++ l) last
-      ∙ sym (append_assoc (all_piece_sizes ts) (whole ∷ [])
+      ∙ ap (λ l. all_fragment_sizes ts ++ l) last
+      ∙ sym (append_assoc (all_fragment_sizes ts) (whole ∷ [])
       (sizes_from (complete ++ whole ∷ []) rest))
 
+  -- behind subtrees, their sizes are complete
   sizes_trees : (ts : Subtrees) (complete : List ℕ) (rest : List Fragment) → AreCounted ts
-      → sizes_from complete (all_pieces_of ts ++ rest)
-      ≡ all_piece_sizes ts ++ sizes_from (complete ++ part_sizes ts) rest
+      → sizes_from complete (all_fragments_of ts ++ rest)
+      ≡ all_fragment_sizes ts ++ sizes_from (complete ++ part_sizes ts) rest
   sizes_trees no_parts complete rest counted =
       ap (λ l. sizes_from l rest) (sym (append-nil complete))
   sizes_trees (part_and t ts) complete rest counted =
       let next = complete ++ size_of t ∷ [] in
       let joined : next ++ part_sizes ts ≡ complete ++ (size_of t ∷ part_sizes ts) =
       append_assoc complete (size_of t ∷ []) (part_sizes ts) in
-      ap (sizes_from complete) (append_assoc (pieces_of t) (all_pieces_of ts) rest)
-      ∙ sizes_tree t complete (all_pieces_of ts ++ rest) counted.0
-      ∙ ap (λ l. piece_sizes t ++ l) (sizes_trees ts next rest counted.1)
-      ∙ ap (λ l. piece_sizes t ++ (all_piece_sizes ts ++ sizes_from l rest)) joined
-      ∙ sym (append_assoc (piece_sizes t) (all_piece_sizes ts)
+      ap (sizes_from complete) (append_assoc (fragments_of t) (all_fragments_of ts) rest)
+      ∙ sizes_tree t complete (all_fragments_of ts ++ rest) counted.0
+      ∙ ap (λ l. fragment_sizes t ++ l) (sizes_trees ts next rest counted.1)
+      ∙ ap (λ l. fragment_sizes t ++ (all_fragment_sizes ts ++ sizes_from l rest)) joined
+      ∙ sym (append_assoc (fragment_sizes t) (all_fragment_sizes ts)
       (sizes_from (complete ++ part_sizes (part_and t ts)) rest))
 
 -- the fragments of a whole tree have its sizes
-pub sizes_whole : (t : Subtree) (fragments : List Fragment) → IsCounted t → fragments ≡ pieces_of t
-    → sizes_from [] fragments ≡ piece_sizes t
+pub sizes_whole : (t : Subtree) (fragments : List Fragment) → IsCounted t → fragments ≡ fragments_of t
+    → sizes_from [] fragments ≡ fragment_sizes t
 sizes_whole t fragments counted e =
-    ap (sizes_from []) (e ∙ sym (append-nil (pieces_of t))) ∙ sizes_tree t [] [] counted
-    ∙ append-nil (piece_sizes t)
+    ap (sizes_from []) (e ∙ sym (append-nil (fragments_of t))) ∙ sizes_tree t [] [] counted
+    ∙ append-nil (fragment_sizes t)
 
 -- a fragment that is read adds one to the sum of the complete sizes
 pub sum-closed : (count : ℕ) (complete : List ℕ) → sum (closed count complete) ≡ sum complete + 1
@@ -184,8 +189,8 @@ next_sizes whole sizes complete all i x within is h =
 
 -- where none is left, all sizes are found
 pub sizes_end : (t : Subtree) (all : List Fragment) (complete sizes : List ℕ) (i : ℕ) → IsCounted t
-    → all ≡ pieces_of t → length all ≤ i
-    → sizes_from [] all ≡ sizes ++ sizes_from complete (drop i all) → sizes ≡ piece_sizes t
+    → all ≡ fragments_of t → length all ≤ i
+    → sizes_from [] all ≡ sizes ++ sizes_from complete (drop i all) → sizes ≡ fragment_sizes t
 sizes_end t all complete sizes i counted is past h =
     sym (append-nil sizes) ∙ ap (λ l. sizes ++ sizes_from complete l) (sym (drop_all i all past))
     ∙ sym h ∙ sizes_whole t all counted is

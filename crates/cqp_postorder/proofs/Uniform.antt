@@ -2,28 +2,30 @@
 -- tree.
 use Rattle.std.proofs.Common.{◌≡◌, ℕ, ◌+◌, List, ◌++◌, map, refl}
 use Rattle.std.proofs.Common.{ap, append_assoc, append-nil, arith}
-use Rattle.cqp_postorder.specs.declared.fragment.Fragment.{Fragment}
-use Rattle.cqp_postorder.specs.declared.fragment.Kind.{Kind}
-use Rattle.cqp_postorder.specs.declared.fragment.Kind.TheVariants as kind
+use Rattle.cqp_program.specs.declared.fragment.Fragment.{Fragment}
+use Rattle.cqp_program.specs.declared.fragment.Kind.{Kind}
+use Rattle.cqp_program.specs.declared.fragment.Kind.TheVariants as kind
 use Rattle.cqp_grammar.specs.Trees.{ExprTree, number, unit, name, gate, sig, add, apply, measure}
 use Rattle.cqp_grammar.specs.Trees.{ExprTrees, no_exprs, expr_and, ProcessTree, nil, par, new, qbit}
 use Rattle.cqp_grammar.specs.Trees.{act, input, output, branch, call}
 use Rattle.cqp_program.specs.Listing.{occ, ty_tree, param, expr_size, exprs_size, process_size}
-use Rattle.cqp_postorder.specs.Postorder.{ends, expr_count, expr_postorder, exprs_postorder}
-use Rattle.cqp_postorder.specs.Postorder.{postorder}
+use Rattle.cqp_program.specs.Postorder.{ends, expr_count, expr_postorder, exprs_postorder}
+use Rattle.cqp_program.specs.Postorder.{postorder}
 use Rattle.cqp_postorder.specs.Subtrees.{Subtree, over, Subtrees, no_parts, part_and, size_of}
 use Rattle.cqp_postorder.specs.Subtrees.{sizes_of, length_of}
-use Rattle.cqp_postorder.specs.Subtrees.{pieces_of, all_pieces_of}
+use Rattle.cqp_postorder.specs.Subtrees.{fragments_of, all_fragments_of}
 use Rattle.cqp_postorder.specs.Subtrees.{IsCounted, AreCounted}
 
 -- one part, and two
 abbrev pub one : Subtree → Subtrees
 one t = part_and t no_parts
 
+-- two subtrees
 abbrev pub two : Subtree → Subtree → Subtrees
 two t u = part_and t (one u)
 
 abbrev mutual
+  -- an expression as a subtree
   pub expr_subtree : ExprTree → Subtree
   expr_subtree (number at v) = over (kind.Num v) at no_parts
   expr_subtree (unit at) = over kind.Unit at no_parts
@@ -39,6 +41,7 @@ abbrev mutual
   exprs_and no_exprs ts = ts
   exprs_and (expr_and e es) ts = part_and (expr_subtree e) (exprs_and es ts)
 
+-- a process as a subtree
 abbrev pub subtree : ProcessTree → Subtree
 subtree (nil at) = over kind.Nil at no_parts
 subtree (par at p q) = over kind.Par at (two (subtree p) (subtree q))
@@ -65,15 +68,18 @@ mutual
   expr_counted (apply at xs e) = (refl, (expr_counted e, tt))
   expr_counted (measure at xs) = (refl, tt)
 
+  -- expressions before counted subtrees are counted
   exprs_counted : (es : ExprTrees) (ts : Subtrees) → AreCounted ts → AreCounted (exprs_and es ts)
   exprs_counted no_exprs ts h = h
   exprs_counted (expr_and e es) ts h = (expr_counted e, exprs_counted es ts h)
 
+-- expressions before subtrees are as many as both
 length-exprs_and : (es : ExprTrees) (ts : Subtrees)
     → length_of (exprs_and es ts) ≡ expr_count es + length_of ts
 length-exprs_and no_exprs ts = omega arith
 length-exprs_and (expr_and e es) ts = omega (arith, length-exprs_and es ts)
 
+-- each node of a process counts its parts
 pub counted : (p : ProcessTree) → IsCounted (subtree p)
 counted (nil at) = (refl, tt)
 counted (par at p q) = (refl, (counted p, (counted q, tt)))
@@ -99,11 +105,13 @@ mutual
   size-expr (apply at xs e) = omega (arith, size-expr e)
   size-expr (measure at xs) = omega arith
 
+  -- expressions before subtrees have the nodes of both
   sizes-exprs_and : (es : ExprTrees) (ts : Subtrees)
       → sizes_of (exprs_and es ts) ≡ exprs_size es + sizes_of ts
   sizes-exprs_and no_exprs ts = omega arith
   sizes-exprs_and (expr_and e es) ts = omega (arith, size-expr e, sizes-exprs_and es ts)
 
+-- a process has as many nodes as its subtree
 pub size-process : (p : ProcessTree) → size_of (subtree p) ≡ process_size p
 size-process (nil at) = omega arith
 size-process (par at p q) = omega (arith, size-process p, size-process q)
@@ -123,7 +131,7 @@ ended xs ys at k e = ap (λ l. l ++ ends at k) e
 
 mutual
   -- fragments
-  fragments-expr : (e : ExprTree) → pieces_of (expr_subtree e) ≡ expr_postorder e
+  fragments-expr : (e : ExprTree) → fragments_of (expr_subtree e) ≡ expr_postorder e
   fragments-expr (number at v) = refl
   fragments-expr (unit at) = refl
   fragments-expr (name at x) = refl
@@ -134,13 +142,15 @@ mutual
   fragments-expr (apply at xs e) = ended _ _ at _ (simp (append-nil, fragments-expr e))
   fragments-expr (measure at xs) = refl
 
+  -- expressions before subtrees have their fragments before theirs
   fragments-exprs_and : (es : ExprTrees) (ts : Subtrees)
-      → all_pieces_of (exprs_and es ts) ≡ exprs_postorder es ++ all_pieces_of ts
+      → all_fragments_of (exprs_and es ts) ≡ exprs_postorder es ++ all_fragments_of ts
   fragments-exprs_and no_exprs ts = refl
   fragments-exprs_and (expr_and e es) ts =
       rw (fragments-expr e, fragments-exprs_and es ts, append_assoc) refl
 
-pub fragments-process : (p : ProcessTree) → pieces_of (subtree p) ≡ postorder p
+-- the fragments of a process are those of its subtree
+pub fragments-process : (p : ProcessTree) → fragments_of (subtree p) ≡ postorder p
 fragments-process (nil at) = refl
 fragments-process (par at p q) =
     ended _ _ at _ (simp (append-nil, fragments-process p, fragments-process q))

@@ -11,7 +11,7 @@ use Rattle.cqp_grammar.specs.Trees.{act, input, output, branch, call}
 use Rattle.cqp_program.specs.Listing.{occ, expr_size, exprs_size, process_size}
 use Rattle.cqp_program.specs.Listing.{numbers_from, expr_nodes, exprs_nodes, process_nodes}
 use Rattle.cqp_program.specs.Listing.{expr_offsets, exprs_offsets, process_offsets}
-use Rattle.cqp_postorder.specs.Postorder.{expr_count}
+use Rattle.cqp_program.specs.Postorder.{expr_count}
 use Rattle.cqp_postorder.specs.Subtrees.{Subtrees, size_of}
 use Rattle.cqp_postorder.specs.Subtrees.{numbers_of, nodes_of, all_nodes_of}
 use Rattle.cqp_postorder.specs.Subtrees.{offsets_of, all_offsets_of}
@@ -30,12 +30,14 @@ mutual
   offsets-expr (apply at xs e) = simp (append-nil, offsets-expr e)
   offsets-expr (measure at xs) = refl
 
+  -- expressions before subtrees have their offsets before theirs
   offsets-exprs_and : (es : ExprTrees) (ts : Subtrees)
       → all_offsets_of (exprs_and es ts) ≡ exprs_offsets es ++ all_offsets_of ts
   offsets-exprs_and no_exprs ts = refl
   offsets-exprs_and (expr_and e es) ts =
       rw (offsets-expr e, offsets-exprs_and es ts, append_assoc) refl
 
+-- the offsets of a process are those of its subtree
 pub offsets-process : (p : ProcessTree) → offsets_of (subtree p) ≡ process_offsets p
 offsets-process (nil at) = refl
 offsets-process (par at p q) = simp (append-nil, offsets-process p, offsets-process q)
@@ -60,6 +62,7 @@ numbers-exprs_and n (expr_and e es) ts =
     (ap (λ k. numbers_of k (exprs_and es ts)) same ∙ numbers-exprs_and (n + expr_size e) es ts
     ∙ ap (λ k. numbers_from (n + expr_size e) es ++ numbers_of k ts) next)
 
+-- there is a number for each expression
 length-numbers_from : (n : ℕ) (es : ExprTrees) → length (numbers_from n es) ≡ expr_count es
 length-numbers_from n no_exprs = refl
 length-numbers_from n (expr_and e es) = omega (arith, length-numbers_from (n + expr_size e) es)
@@ -77,6 +80,7 @@ mutual
   nodes-expr n (apply at xs e) = simp (append-nil, nodes-expr (n + 1) e)
   nodes-expr n (measure at xs) = refl
 
+  -- expressions before subtrees have their nodes before theirs
   nodes-exprs_and : (n : ℕ) (es : ExprTrees) (ts : Subtrees)
       → all_nodes_of n (exprs_and es ts) ≡ exprs_nodes n es ++ all_nodes_of (n + exprs_size es) ts
   nodes-exprs_and n no_exprs ts = let e : n ≡ n + 0 = omega arith in ap (λ k. all_nodes_of k ts) e
@@ -97,6 +101,7 @@ out_node n c es ns m e =
     let last = get_or_at (numbers_from n es) m [] 0 (expr_count es) (length-numbers_from n es) in
     rw (e, front, last) refl
 
+-- the nodes of a process are those of its subtree
 pub nodes-process : (n : ℕ) (p : ProcessTree) → nodes_of n (subtree p) ≡ process_nodes n p
 nodes-process n (nil at) = refl
 nodes-process n (par at p q) =

@@ -1,4 +1,2 @@
-pub mod ListExamples
 pub mod Placing
-pub mod Postorder
 pub mod Subtrees

@@ -2,13 +2,13 @@
 -- No public clause cites this module.
 use Rattle.std.specs.Prelude.{◌≡◌, ℕ, ◌+◌, ◌^◌, ◌<◌, ◌≤◌, List, [], ◌∷◌, ◌++◌, length, slice_set}
 use Rattle.cqp_program.specs.declared.tree.TreeNode.{TreeNode}
-use Rattle.cqp_postorder.specs.declared.fragment.Fragment.{Fragment}
+use Rattle.cqp_program.specs.declared.fragment.Fragment.{Fragment}
 use Rattle.cqp_postorder.specs.declared.placing.Placing.{Placing}
 use Rattle.cqp_postorder.specs.Subtrees.{part_count, node_with, Subtree, Subtrees, length_of}
 use Rattle.cqp_postorder.specs.Subtrees.{size_of, sizes_of, numbers_of, nodes_of, all_nodes_of}
-use Rattle.cqp_postorder.specs.Subtrees.{offsets_of, all_offsets_of, all_pieces_of}
-use Rattle.cqp_postorder.specs.Subtrees.{all_piece_sizes, IsCounted, AreCounted}
-use Rattle.cqp_postorder.specs.Subtrees.{Pending, nothing, behind, pending_pieces}
+use Rattle.cqp_postorder.specs.Subtrees.{offsets_of, all_offsets_of, all_fragments_of}
+use Rattle.cqp_postorder.specs.Subtrees.{all_fragment_sizes, IsCounted, AreCounted}
+use Rattle.cqp_postorder.specs.Subtrees.{Pending, nothing, behind, pending_fragments}
 use Rattle.cqp_postorder.specs.Subtrees.{pending_numbers, pending_sizes}
 
 -- the list with these items from number n on
@@ -35,7 +35,7 @@ ArePlaced limit (behind ps n t) = (n + size_of t ≤ limit) × IsCounted t × Ar
 pub record PlacesRest (t : Subtree) (left : List Fragment) (sizes numbers : List ℕ)
     (nodes : List TreeNode) (offsets : List ℕ) : Type 0 where
   pub rest : Pending
-  pub fragments : left ≡ pending_pieces rest
+  pub fragments : left ≡ pending_fragments rest
   pub sized : sizes ≡ pending_sizes rest
   pub numbered : numbers ≡ pending_numbers rest
   pub nodes_full : filled nodes_of rest nodes ≡ nodes_of 0 t
@@ -51,8 +51,8 @@ pub record PlacesNode (t : Subtree) (left : List Fragment) (x : Fragment) (n : �
   pub rest : Pending
   pub parts : Subtrees
   pub numbers_found : found ≡ numbers_of (n + 1) parts
-  pub fragments : left ≡ pending_pieces rest ++ all_pieces_of parts
-  pub sized : sizes ≡ pending_sizes rest ++ all_piece_sizes parts
+  pub fragments : left ≡ pending_fragments rest ++ all_fragments_of parts
+  pub sized : sizes ≡ pending_sizes rest ++ all_fragment_sizes parts
   pub numbered : numbers ≡ pending_numbers rest
   pub many : length_of parts ≡ part_count x.kind
   pub counted : AreCounted parts

@@ -4,16 +4,17 @@
 use Rattle.std.specs.Prelude.{◌≡◌, ℕ, ◌+◌, List, [], ◌∷◌, ◌++◌, take, slice_index}
 use Rattle.cqp_program.specs.declared.tree.TreeNode.{TreeNode}
 use Rattle.cqp_program.specs.declared.tree.TreeNode.TheVariants as node
-use Rattle.cqp_postorder.specs.declared.fragment.Fragment.{Fragment}
-use Rattle.cqp_postorder.specs.declared.fragment.Kind.{Kind}
-use Rattle.cqp_postorder.specs.declared.fragment.Kind.TheVariants as kind
-use Rattle.cqp_postorder.specs.Postorder.{ends}
+use Rattle.cqp_program.specs.declared.fragment.Fragment.{Fragment}
+use Rattle.cqp_program.specs.declared.fragment.Kind.{Kind}
+use Rattle.cqp_program.specs.declared.fragment.Kind.TheVariants as kind
+use Rattle.cqp_program.specs.Postorder.{ends}
 
 mutual
   -- a node over its parts
   pub data Subtree : Type 0 where
     over : (kind : Kind) (at : ℕ) → Subtrees → Subtree
 
+  -- subtrees in order
   pub data Subtrees : Type 0 where
     no_parts : Subtrees
     part_and : Subtree → Subtrees → Subtrees
@@ -58,6 +59,7 @@ abbrev mutual
   pub size_of : Subtree → ℕ
   size_of (over k at ts) = 1 + sizes_of ts
 
+  -- how many nodes the subtrees have
   pub sizes_of : Subtrees → ℕ
   sizes_of no_parts = 0
   sizes_of (part_and t ts) = size_of t + sizes_of ts
@@ -77,6 +79,7 @@ abbrev mutual
   pub nodes_of : ℕ → Subtree → List TreeNode
   nodes_of n (over k at ts) = node_with k (numbers_of (n + 1) ts) ∷ all_nodes_of (n + 1) ts
 
+  -- the nodes of the subtrees, from a number on
   pub all_nodes_of : ℕ → Subtrees → List TreeNode
   all_nodes_of n no_parts = []
   all_nodes_of n (part_and t ts) = nodes_of n t ++ all_nodes_of (n + size_of t) ts
@@ -86,33 +89,37 @@ abbrev mutual
   pub offsets_of : Subtree → List ℕ
   offsets_of (over k at ts) = at ∷ all_offsets_of ts
 
+  -- the offsets of the subtrees
   pub all_offsets_of : Subtrees → List ℕ
   all_offsets_of no_parts = []
   all_offsets_of (part_and t ts) = offsets_of t ++ all_offsets_of ts
 
 abbrev mutual
   -- the fragments, in postorder
-  pub pieces_of : Subtree → List Fragment
-  pieces_of (over k at ts) = all_pieces_of ts ++ ends at k
+  pub fragments_of : Subtree → List Fragment
+  fragments_of (over k at ts) = all_fragments_of ts ++ ends at k
 
-  pub all_pieces_of : Subtrees → List Fragment
-  all_pieces_of no_parts = []
-  all_pieces_of (part_and t ts) = pieces_of t ++ all_pieces_of ts
+  -- the fragments of the subtrees
+  pub all_fragments_of : Subtrees → List Fragment
+  all_fragments_of no_parts = []
+  all_fragments_of (part_and t ts) = fragments_of t ++ all_fragments_of ts
 
 abbrev mutual
   -- how many nodes each fragment is with all nodes below it, in postorder
-  pub piece_sizes : Subtree → List ℕ
-  piece_sizes (over k at ts) = all_piece_sizes ts ++ (1 + sizes_of ts) ∷ []
+  pub fragment_sizes : Subtree → List ℕ
+  fragment_sizes (over k at ts) = all_fragment_sizes ts ++ (1 + sizes_of ts) ∷ []
 
-  pub all_piece_sizes : Subtrees → List ℕ
-  all_piece_sizes no_parts = []
-  all_piece_sizes (part_and t ts) = piece_sizes t ++ all_piece_sizes ts
+  -- the sizes of the subtrees' fragments
+  pub all_fragment_sizes : Subtrees → List ℕ
+  all_fragment_sizes no_parts = []
+  all_fragment_sizes (part_and t ts) = fragment_sizes t ++ all_fragment_sizes ts
 
 abbrev mutual
   -- each node has as many parts as its kind says
   pub IsCounted : Subtree → Type 0
   IsCounted (over k at ts) = (length_of ts ≡ part_count k) × AreCounted ts
 
+  -- each node of the subtrees counts its parts
   pub AreCounted : Subtrees → Type 0
   AreCounted no_parts = Unit {0}
   AreCounted (part_and t ts) = IsCounted t × AreCounted ts
@@ -123,6 +130,7 @@ pub data Pending : Type 0 where
   nothing : Pending
   behind : Pending → (number : ℕ) → Subtree → Pending
 
+-- how many nodes are pending
 abbrev pub pending_count : Pending → ℕ
 pending_count nothing = 0
 pending_count (behind ps n t) = pending_count ps + 1
@@ -132,13 +140,15 @@ abbrev pub pending_numbers : Pending → List ℕ
 pending_numbers nothing = []
 pending_numbers (behind ps n t) = pending_numbers ps ++ n ∷ []
 
-abbrev pub pending_pieces : Pending → List Fragment
-pending_pieces nothing = []
-pending_pieces (behind ps n t) = pending_pieces ps ++ pieces_of t
+-- the fragments that are pending
+abbrev pub pending_fragments : Pending → List Fragment
+pending_fragments nothing = []
+pending_fragments (behind ps n t) = pending_fragments ps ++ fragments_of t
 
+-- the sizes of the subtrees that are pending
 abbrev pub pending_sizes : Pending → List ℕ
 pending_sizes nothing = []
-pending_sizes (behind ps n t) = pending_sizes ps ++ piece_sizes t
+pending_sizes (behind ps n t) = pending_sizes ps ++ fragment_sizes t
 
 -- each ends where the next begins, and the last at this number
 abbrev pub AreAdjacent : ℕ → Pending → Type 0

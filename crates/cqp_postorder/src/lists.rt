@@ -3,16 +3,15 @@
 ghost use Rattle.std.specs.Prelude.{◌≡◌, ◌<◌, ◌^◌, length, IfOk};
 ghost use Rattle.cqp_grammar.specs.Trees.{ProcessTree};
 ghost use Rattle.cqp_program.specs.Listing.{tree_lists};
-ghost use Rattle.cqp_postorder.specs.Postorder.{postorder};
+ghost use Rattle.cqp_program.specs.Postorder.{postorder};
 
 use crate::NoMemory;
-use crate::fragment::Fragment;
 use crate::placing::Placing;
-use cqp_program::Tree;
+use cqp_program::{Fragment, Tree};
 use std::alloc::Global;
 
 /// The lists of the process with these fragments. The time grows with their number.
-pub fn tree_of(alloc: Global, mut fragments: Vec<Fragment>) -> Result<Tree, NoMemory>
+pub fn tree_lists(alloc: Global, mut fragments: Vec<Fragment>) -> Result<Tree, NoMemory>
     requires one { (p : ProcessTree) × (fragments.items ≡ postorder p) }
     requires few { length fragments.items < 2 ^ 31 }
     ensures ok { (p : ProcessTree) → fragments.items ≡ postorder p → IfOk result (λ t. t

@@ -4,8 +4,7 @@ ghost use Rattle.std.specs.Prelude.{◌≡◌, length, IfOk};
 ghost use Rattle.cqp_postorder.specs.Subtrees.{part_count, node_with};
 
 use crate::NoMemory;
-use crate::fragment::Kind;
-use cqp_program::TreeNode;
+use cqp_program::{Kind, TreeNode};
 use cqp_syntax::Names;
 use std::alloc::Global;
 

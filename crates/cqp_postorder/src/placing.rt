@@ -4,16 +4,15 @@
 ghost use Rattle.std.specs.Prelude.{◌≡◌, ◌<◌, ◌^◌, List, [], ◌∷◌, ◌++◌, length, replicate};
 ghost use Rattle.std.specs.Prelude.{IfOk, OnOk};
 ghost use Rattle.cqp_program.specs.declared.tree.TreeNode.TheVariants.{Nil};
-ghost use Rattle.cqp_postorder.specs.declared.fragment.Fragment.{Fragment};
-ghost use Rattle.cqp_postorder.specs.Subtrees.{Subtree, IsCounted, pieces_of, part_count};
+ghost use Rattle.cqp_program.specs.declared.fragment.Fragment.{Fragment};
+ghost use Rattle.cqp_postorder.specs.Subtrees.{Subtree, IsCounted, fragments_of, part_count};
 ghost use Rattle.cqp_postorder.specs.Subtrees.{nodes_of, offsets_of};
 
 use crate::NoMemory;
-use crate::fragment::Fragment;
 use crate::nodes::node_of;
 use crate::numbers::find_parts;
-use crate::sizes::{parts_of, subtree_sizes};
-use cqp_program::{Tree, TreeNode, TreeNodes};
+use crate::sizes::{part_count, subtree_sizes};
+use cqp_program::{Fragment, Tree, TreeNode, TreeNodes};
 use cqp_syntax::Names;
 use std::alloc::Global;
 
@@ -35,9 +34,9 @@ impl Placing {
 
     /// Nothing is placed yet.
     pub(crate) fn new(alloc: Global, fragments: &[Fragment]) -> Result<Placing, NoMemory>
-        requires one { (t : Subtree) × IsCounted t × (fragments.now ≡ pieces_of t) }
+        requires one { (t : Subtree) × IsCounted t × (fragments.now ≡ fragments_of t) }
         requires few { length fragments.now < 2 ^ 31 }
-        ensures { IfOk result (λ p. (t : Subtree) → IsCounted t → fragments.now ≡ pieces_of t
+        ensures { IfOk result (λ p. (t : Subtree) → IsCounted t → fragments.now ≡ fragments_of t
             → IsPlacing t fragments.now p) }
     {
         let sizes = subtree_sizes(alloc, fragments)?;
@@ -62,7 +61,7 @@ impl Placing {
             → OnOk result (IsPlacing t left self.new) }
     {
         let Fragment { kind, at } = fragment;
-        let n = self.take(parts_of(&kind))?;
+        let n = self.take(part_count(&kind))?;
         let node = node_of(alloc, kind, self.parts.as_slice())?;
         self.pending.extend_from_slice(self.parts.as_slice())?;
         self.nodes[n as usize] = node;

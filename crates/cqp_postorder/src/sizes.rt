@@ -3,24 +3,24 @@
 
 ghost use Rattle.std.specs.Prelude.{◌≡◌, ◌≤◌, ◌<◌, ◌^◌, ◌-◌, length, take, drop, sum, IfOk};
 ghost use Rattle.cqp_postorder.specs.Subtrees.{Subtree, IsCounted, part_count};
-ghost use Rattle.cqp_postorder.specs.Subtrees.{pieces_of, piece_sizes};
+ghost use Rattle.cqp_postorder.specs.Subtrees.{fragments_of, fragment_sizes};
 
 use crate::NoMemory;
-use crate::fragment::{Fragment, Kind};
+use cqp_program::{Fragment, Kind};
 use std::alloc::Global;
 
 /// The size of each fragment, its own node counted. The time grows with their number.
 pub(crate) fn subtree_sizes(alloc: Global, fragments: &[Fragment]) -> Result<Vec<u32>, NoMemory>
-    requires one { (t : Subtree) × IsCounted t × (fragments.now ≡ pieces_of t) }
+    requires one { (t : Subtree) × IsCounted t × (fragments.now ≡ fragments_of t) }
     requires few { length fragments.now < 2 ^ 31 }
-    ensures { (t : Subtree) → IsCounted t → fragments.now ≡ pieces_of t
-        → IfOk result (λ sizes. sizes.items ≡ piece_sizes t) }
+    ensures { (t : Subtree) → IsCounted t → fragments.now ≡ fragments_of t
+        → IfOk result (λ sizes. sizes.items ≡ fragment_sizes t) }
 {
     // The sizes of the subtrees that no fragment so far has as a part.
     let mut complete = Vec::new(alloc);
     let mut sizes = Vec::with_capacity(alloc, fragments.len())?;
     for fragment in fragments {
-        let size = 1 + take_last(&mut complete, parts_of(&fragment.kind));
+        let size = 1 + take_last(&mut complete, part_count(&fragment.kind));
         complete.push(size)?;
         sizes.push(size)?;
     }
@@ -41,7 +41,7 @@ fn take_last(sizes: &mut Vec<u32>, count: usize) -> u32
 }
 
 /// How many parts a node of this kind has.
-pub(crate) fn parts_of(kind: &Kind) -> usize
+pub(crate) fn part_count(kind: &Kind) -> usize
     requires { part_count kind.now < 2 ^ 64 }
     ensures { result ≡ part_count kind.now }
 {

@@ -1,12 +1,12 @@
 //! Heads of nodes: what stands before their parts.
 
 ghost use Rattle.std.specs.Prelude.{◌≡◌, ◌∷◌, ◌++◌, [], List, OnOk, map};
-ghost use Rattle.cqp_grammar.specs.declared.token.Token.TheVariants.{Name, Key, Sign};
-ghost use Rattle.cqp_grammar.specs.declared.token.Reserved.TheVariants.{Measure, Sig};
-ghost use Rattle.cqp_grammar.specs.declared.token.Symbol.TheVariants.{Applies, Open};
+ghost use Rattle.cqp_grammar.specs.declared.token.Token.TheVariants.{Name, Reserved, Symbol};
+ghost use Rattle.cqp_grammar.specs.declared.token.ReservedWord.TheVariants.{Measure, Sig};
+ghost use Rattle.cqp_grammar.specs.declared.token.SymbolKind.TheVariants.{Applies, Open};
 ghost use Rattle.cqp_grammar.specs.Trees.{Parameter};
 ghost use Rattle.cqp_grammar.specs.Canonical.{in_parentheses};
-ghost use Rattle.cqp_grammar.specs.Grammar.{gate_key};
+ghost use Rattle.cqp_grammar.specs.Grammar.{gate_word};
 ghost use Rattle.cqp_syntax.specs.TypeTrees.{TypeTree};
 ghost use Rattle.cqp_program.specs.Listing.{param, ty_tree};
 ghost use Rattle.cqp_print.specs.Written.{after};
@@ -16,7 +16,7 @@ ghost use Rattle.cqp_print.specs.Trees.{new_head, qbit_head, input_head, output_
 
 use crate::NoMemory;
 use crate::writer::Writer;
-use cqp_grammar::{Reserved, Symbol};
+use cqp_grammar::{ReservedWord, SymbolKind};
 use cqp_program::{Occ, Param, TreeNode, TyTree};
 use cqp_syntax::Op;
 
@@ -32,14 +32,14 @@ impl Writer {
             TreeNode::Par { .. } | TreeNode::Add { .. } => Ok(()),
             TreeNode::New { name, ty, .. } => self.new_head(name, ty),
             TreeNode::Qbit { name, .. } => self.qbit_head(name),
-            TreeNode::Act { .. } => self.sign(Symbol::OpenAct),
+            TreeNode::Act { .. } => self.symbol(SymbolKind::OpenAct),
             TreeNode::In { chan, params, .. } => self.input_head(chan, params.as_slice()),
             TreeNode::Out { chan, .. } => self.output_head(chan),
-            TreeNode::If { .. } => self.key(Reserved::If),
+            TreeNode::If { .. } => self.reserved(ReservedWord::If),
             TreeNode::Num { v } => self.number(*v),
-            TreeNode::Unit => self.key(Reserved::UnitValue),
+            TreeNode::Unit => self.reserved(ReservedWord::UnitValue),
             TreeNode::Name { name } => self.name(name.as_slice()),
-            TreeNode::Gate { op } => self.key(gate_key(*op)),
+            TreeNode::Gate { op } => self.reserved(gate_word(*op)),
             TreeNode::Sig { .. } => self.sig_head(),
             TreeNode::Apply { qubits, .. } => self.apply_head(qubits.as_slice()),
             TreeNode::Measure { qubits } => self.measure(qubits.as_slice()),
@@ -54,22 +54,22 @@ impl Writer {
         ensures { (t : TypeTree) → ty.now ≡ ty_tree t
             → OnOk result (self.new ≡ after self.old (new_head name.now t)) }
     {
-        self.sign(Symbol::Open)?;
-        self.key(Reserved::New)?;
+        self.symbol(SymbolKind::Open)?;
+        self.reserved(ReservedWord::New)?;
         self.name(name.name.as_slice())?;
-        self.sign(Symbol::Colon)?;
+        self.symbol(SymbolKind::Colon)?;
         self.ty(ty)?;
-        self.sign(Symbol::Close)
+        self.symbol(SymbolKind::Close)
     }
 
     /// Writes a binder of a qubit, in parentheses.
     fn qbit_head(&mut self, name: &Occ) -> Result<(), NoMemory>
         ensures { OnOk result (self.new ≡ after self.old (qbit_head name.now)) }
     {
-        self.sign(Symbol::Open)?;
-        self.key(Reserved::MakeQbit)?;
+        self.symbol(SymbolKind::Open)?;
+        self.reserved(ReservedWord::MakeQbit)?;
         self.name(name.name.as_slice())?;
-        self.sign(Symbol::Close)
+        self.symbol(SymbolKind::Close)
     }
 
     /// Writes what an input receives, up to its body.
@@ -80,11 +80,11 @@ impl Writer {
             → OnOk result (self.new ≡ after self.old (input_head chan.now ps)) }
     {
         self.name(chan.name.as_slice())?;
-        self.sign(Symbol::Question)?;
-        self.sign(Symbol::OpenList)?;
+        self.symbol(SymbolKind::Question)?;
+        self.symbol(SymbolKind::OpenList)?;
         self.params(params)?;
-        self.sign(Symbol::CloseList)?;
-        self.sign(Symbol::Dot)
+        self.symbol(SymbolKind::CloseList)?;
+        self.symbol(SymbolKind::Dot)
     }
 
     /// Writes what stands before the items of an output.
@@ -92,33 +92,34 @@ impl Writer {
         ensures { OnOk result (self.new ≡ after self.old (output_head chan.now)) }
     {
         self.name(chan.name.as_slice())?;
-        self.sign(Symbol::Bang)?;
-        self.sign(Symbol::OpenList)
+        self.symbol(SymbolKind::Bang)?;
+        self.symbol(SymbolKind::OpenList)
     }
 
     /// Opens a `sig`, which the part closes.
     fn sig_head(&mut self) -> Result<(), NoMemory>
-        ensures { OnOk result (self.new ≡ after self.old (Key Sig 0 ∷ Sign Open 0 ∷ [])) }
+        ensures { OnOk result (self.new ≡ after self.old (Reserved Sig 0 ∷ Symbol Open 0 ∷ [])) }
     {
-        self.key(Reserved::Sig)?;
-        self.sign(Symbol::Open)
+        self.reserved(ReservedWord::Sig)?;
+        self.symbol(SymbolKind::Open)
     }
 
     /// Writes the qubits to which a gate is applied.
     #[tactic(auto, using(crate::proofs::Written::joins))]
     fn apply_head(&mut self, qubits: &[Occ]) -> Result<(), NoMemory>
         ensures { OnOk result (self.new
-            ≡ after self.old (occs_tokens qubits.now ++ Sign Applies 0 ∷ [])) }
+            ≡ after self.old (occs_tokens qubits.now ++ Symbol Applies 0 ∷ [])) }
     {
         self.names(qubits)?;
-        self.sign(Symbol::Applies)
+        self.symbol(SymbolKind::Applies)
     }
 
     /// Writes a measurement.
     fn measure(&mut self, qubits: &[Occ]) -> Result<(), NoMemory>
-        ensures { OnOk result (self.new ≡ after self.old (Key Measure 0 ∷ occs_tokens qubits.now)) }
+        ensures { OnOk result (self.new ≡ after self.old (Reserved Measure 0
+            ∷ occs_tokens qubits.now)) }
     {
-        self.key(Reserved::Measure)?;
+        self.reserved(ReservedWord::Measure)?;
         self.names(qubits)
     }
 
@@ -129,24 +130,27 @@ impl Writer {
             ≡ after self.old (Name name.now 0 ∷ in_parentheses (occs_tokens args.now))) }
     {
         self.name(name)?;
-        self.sign(Symbol::Open)?;
+        self.symbol(SymbolKind::Open)?;
         self.names(args)?;
-        self.sign(Symbol::Close)
+        self.symbol(SymbolKind::Close)
     }
 }
 
 /// The reserved word of a gate.
-fn gate_key(op: Op) -> Reserved
-    ensures { result ≡ gate_key op }
+fn gate_word(op: Op) -> ReservedWord
+    ensures { result ≡ gate_word op }
 {
     match op {
-        Op::I => Reserved::I,
-        Op::X => Reserved::X,
-        Op::Y => Reserved::Y,
-        Op::Z => Reserved::Z,
-        Op::H => Reserved::H,
-        Op::S => Reserved::S,
-        Op::T => Reserved::T,
-        Op::CNot => Reserved::CNot,
+        Op::I => ReservedWord::I,
+        Op::X => ReservedWord::X,
+        Op::Y => ReservedWord::Y,
+        Op::Z => ReservedWord::Z,
+        Op::H => ReservedWord::H,
+        Op::S => ReservedWord::S,
+        Op::T => ReservedWord::T,
+        Op::CNot => ReservedWord::CNot,
+        Op::CZ => ReservedWord::CZ,
+        Op::Swap => ReservedWord::Swap,
+        Op::Toffoli => ReservedWord::Toffoli,
     }
 }

@@ -21,6 +21,7 @@ abbrev mutual
   type_size (chan_type ts) = 1 + types_size ts
   type_size t = 1
 
+  -- how many nodes the types have
   pub types_size : TypeTrees → ℕ
   types_size no_types = 0
   types_size (type_and t ts) = type_size t + types_size ts
@@ -39,6 +40,7 @@ abbrev mutual
   type_nodes n (op_type places) = ty.Op places ∷ []
   type_nodes n (chan_type ts) = ty.Chan (type_numbers (n + 1) ts) ∷ types_nodes (n + 1) ts
 
+  -- the nodes of types, from a number on
   pub types_nodes : ℕ → TypeTrees → List Ty
   types_nodes n no_types = []
   types_nodes n (type_and t ts) = type_nodes n t ++ types_nodes (n + type_size t) ts
@@ -47,9 +49,11 @@ abbrev mutual
 abbrev pub occ : Occurrence → Occ
 occ x = record { name = x.name; at = x.at }
 
+-- a type as its list of nodes
 abbrev pub ty_tree : TypeTree → TyTree
 ty_tree t = record { nodes = type_nodes 0 t }
 
+-- a parameter as programs hold it
 abbrev pub param : Parameter → Param
 param p = record { name = p.name; at = p.at; ty = ty_tree p.ty }
 
@@ -65,6 +69,7 @@ abbrev mutual
   expr_size (apply at xs e) = 1 + expr_size e
   expr_size (measure at xs) = 1
 
+  -- how many nodes the expressions have
   pub exprs_size : ExprTrees → ℕ
   exprs_size no_exprs = 0
   exprs_size (expr_and e es) = expr_size e + exprs_size es
@@ -100,6 +105,7 @@ abbrev mutual
   expr_nodes n (apply at xs e) = node.Apply (map occ xs) (n + 1) ∷ expr_nodes (n + 1) e
   expr_nodes n (measure at xs) = node.Measure (map occ xs) ∷ []
 
+  -- the nodes of expressions, from a number on
   pub exprs_nodes : ℕ → ExprTrees → List TreeNode
   exprs_nodes n no_exprs = []
   exprs_nodes n (expr_and e es) = expr_nodes n e ++ exprs_nodes (n + expr_size e) es
@@ -139,6 +145,7 @@ abbrev mutual
   expr_offsets (apply at xs e) = at ∷ expr_offsets e
   expr_offsets (measure at xs) = at ∷ []
 
+  -- the offsets of expressions
   pub exprs_offsets : ExprTrees → List ℕ
   exprs_offsets no_exprs = []
   exprs_offsets (expr_and e es) = expr_offsets e ++ exprs_offsets es

@@ -25,6 +25,6 @@ abbrev pub program_lists : ProgramTree → ProgramLists
 program_lists t = record { defs = map def_lists t.defs; main = tree_lists t.main }
 
 -- the lists are those of the tree, and its names, numbers and operands can be written
-pub record IsListing (lists : ProgramLists) (tree : ProgramTree) : Type 0 where
+pub record IsProgramListing (lists : ProgramLists) (tree : ProgramTree) : Type 0 where
   pub printable : IsPrintable tree
   pub is : lists ≡ program_lists tree

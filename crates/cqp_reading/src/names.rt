@@ -1,78 +1,85 @@
-//! What a name or a number does at each place. `None` where it is refused there.
+//! What a name or a number does, by what is awaited. `None` where it is refused.
 
 ghost use Rattle.std.specs.Prelude.{◌≡◌, ◌<◌, ◌^◌, [], ◌∷◌, ◌++◌, IfOk};
-ghost use Rattle.cqp_reading.specs.Sketch.{gone, weight};
+ghost use Rattle.std.specs.Option.{option_map};
+ghost use Rattle.cqp_reading.specs.DraftLists.{weight, stand};
 ghost use Rattle.cqp_reading.specs.Closing.{prefix_place};
-ghost use Rattle.cqp_reading.specs.Turns.{listed, bound, at_name, op_place, nil_read, at_number};
+ghost use Rattle.cqp_reading.specs.Tokens.{listed, bound, at_name, op_place, nil_read, at_number};
 
 use crate::NoMemory;
+use crate::awaits::Awaits;
 use crate::closing::prefix_read;
 use crate::draft::Draft;
 use crate::frame::Frame;
-use crate::place::Place;
-use crate::signs::{into, one};
-use crate::standing::{atom, prefix_place};
-use cqp_postorder::Kind;
-use cqp_program::{Occ, Occs, Params};
+use crate::standing::{atom, into, prefix_place};
+use cqp_program::{Kind, Occ, Occs, Params};
+use std::alloc::Global;
 
 /// A name.
-pub(crate) fn at_name(draft: &mut Draft, place: Place, name: Occ) -> Result<Option<Place>, NoMemory>
+pub(crate) fn at_name(
+    draft: &mut Draft,
+    awaits: Awaits,
+    name: Occ,
+) -> Result<Option<Awaits>, NoMemory>
     requires few { weight draft.old < 2 ^ 31 }
-    ensures { IfOk result (λ next. gone next draft.new ≡ at_name place draft.old name) }
+    ensures { IfOk result (λ next. option_map (λ a. stand a draft.new) next
+        ≡ at_name awaits draft.old name) }
 {
-    match place {
-        Place::Definitions | Place::PrefixWanted => Ok(Some(Place::Named { name })),
-        Place::Opened { .. } => into(draft, Frame::Group, Place::Named { name }),
-        Place::ItemWanted | Place::AtomWanted | Place::OutputFirst => {
+    match awaits {
+        Awaits::Definitions | Awaits::PrefixWanted => Ok(Some(Awaits::Named { name })),
+        Awaits::Opened { .. } => into(draft, Frame::Group, Awaits::Named { name }),
+        Awaits::ItemWanted | Awaits::AtomWanted | Awaits::OutputFirst => {
             atom(
                 draft,
-                Place::AtomWanted,
+                Awaits::AtomWanted,
                 Kind::Name { name: name.name },
                 name.at,
             )
         }
-        place => bound(draft, place, name),
+        awaits => bound(draft, awaits, name),
     }
 }
 
 /// A name that begins something.
-fn bound(draft: &mut Draft, place: Place, name: Occ) -> Result<Option<Place>, NoMemory>
-    ensures { IfOk result (λ next. gone next draft.new ≡ gone (bound place name) draft.old) }
+fn bound(draft: &mut Draft, awaits: Awaits, name: Occ) -> Result<Option<Awaits>, NoMemory>
+    ensures { IfOk result (λ next. option_map (λ a. stand a draft.new) next
+        ≡ option_map (λ a. stand a draft.old) (bound awaits name)) }
 {
-    match place {
-        Place::DefName => Ok(Some(Place::DefOpen { name })),
-        Place::ParamsFirst => {
+    match awaits {
+        Awaits::DefName => Ok(Some(Awaits::DefOpen { name })),
+        Awaits::ParamsFirst => {
             let params = Params::new(draft.alloc());
-            Ok(Some(Place::ParamColon { params, name }))
+            Ok(Some(Awaits::ParamColon { params, name }))
         }
-        Place::ParamWanted { params } => Ok(Some(Place::ParamColon { params, name })),
-        Place::NewName { at } => Ok(Some(Place::NewColon { at, name })),
-        Place::QbitName { at } => Ok(Some(Place::QbitClose { at, name })),
-        Place::ExprWanted => Ok(Some(Place::ExprNamed { name })),
-        place => listed(draft, place, name),
+        Awaits::ParamWanted { params } => Ok(Some(Awaits::ParamColon { params, name })),
+        Awaits::NewName { at } => Ok(Some(Awaits::NewColon { at, name })),
+        Awaits::QbitName { at } => Ok(Some(Awaits::QbitClose { at, name })),
+        Awaits::ExprWanted => Ok(Some(Awaits::ExprNamed { name })),
+        awaits => listed(draft, awaits, name),
     }
 }
 
 /// A name in a list of names.
-fn listed(draft: &mut Draft, place: Place, name: Occ) -> Result<Option<Place>, NoMemory>
-    ensures { IfOk result (λ next. gone next draft.new ≡ gone (listed place name) draft.old) }
+fn listed(draft: &mut Draft, awaits: Awaits, name: Occ) -> Result<Option<Awaits>, NoMemory>
+    ensures { IfOk result (λ next. option_map (λ a. stand a draft.new) next
+        ≡ option_map (λ a. stand a draft.old) (listed awaits name)) }
 {
-    let next = match place {
-        Place::CallFirst { called } => {
+    let next = match awaits {
+        Awaits::CallFirst { called } => {
             let args = one(draft.alloc(), name)?;
-            Place::CallAfter { called, args }
+            Awaits::CallAfter { called, args }
         }
-        Place::CallWanted { called, args } => {
+        Awaits::CallWanted { called, args } => {
             let args = more(args, name)?;
-            Place::CallAfter { called, args }
+            Awaits::CallAfter { called, args }
         }
-        Place::AppliedWanted { qubits } => {
+        Awaits::AppliedWanted { qubits } => {
             let qubits = more(qubits, name)?;
-            Place::AppliedAfter { qubits }
+            Awaits::AppliedAfter { qubits }
         }
-        Place::MeasuredWanted { at, qubits } | Place::MeasuredComma { at, qubits } => {
+        Awaits::MeasuredWanted { at, qubits } | Awaits::MeasuredComma { at, qubits } => {
             let qubits = more(qubits, name)?;
-            Place::MeasuredAfter { at, qubits }
+            Awaits::MeasuredAfter { at, qubits }
         }
         _ => return Ok(None),
     };
@@ -91,42 +98,53 @@ fn more(names: Occs, name: Occ) -> Result<Occs, NoMemory>
 /// A number.
 pub(crate) fn at_number(
     draft: &mut Draft,
-    place: Place,
+    awaits: Awaits,
     v: u32,
     at: u32,
-) -> Result<Option<Place>, NoMemory>
+) -> Result<Option<Awaits>, NoMemory>
     requires few { weight draft.old < 2 ^ 31 }
-    ensures { IfOk result (λ next. gone next draft.new ≡ at_number place draft.old v at) }
+    ensures { IfOk result (λ next. option_map (λ a. stand a draft.new) next
+        ≡ at_number awaits draft.old v at) }
 {
-    match place {
-        Place::OpNumber => Ok(op_place(v)),
-        Place::Definitions | Place::PrefixWanted | Place::Opened { .. } => {
-            nil_read(draft, place, v, at)
+    match awaits {
+        Awaits::OpNumber => Ok(op_place(v)),
+        Awaits::Definitions | Awaits::PrefixWanted | Awaits::Opened { .. } => {
+            nil_read(draft, awaits, v, at)
         }
-        place => atom(draft, place, Kind::Num { v }, at),
+        awaits => atom(draft, awaits, Kind::Num { v }, at),
     }
 }
 
-/// The place behind the number of places of an `Op`.
-fn op_place(v: u32) -> Option<Place>
+/// What is awaited behind the number of places of an `Op`.
+fn op_place(v: u32) -> Option<Awaits>
     ensures { result ≡ op_place v }
 {
     match v {
-        1 => Some(Place::OpClose { places: 1 }),
-        2 => Some(Place::OpClose { places: 2 }),
+        1 => Some(Awaits::OpClose { places: 1 }),
+        2 => Some(Awaits::OpClose { places: 2 }),
+        3 => Some(Awaits::OpClose { places: 3 }),
         _ => None,
     }
 }
 
 /// `0` as a process.
-fn nil_read(draft: &mut Draft, place: Place, v: u32, at: u32) -> Result<Option<Place>, NoMemory>
-    ensures { IfOk result (λ next. gone next draft.new
-        ≡ nil_read v at (prefix_place place draft.old)) }
+fn nil_read(draft: &mut Draft, awaits: Awaits, v: u32, at: u32) -> Result<Option<Awaits>, NoMemory>
+    ensures { IfOk result (λ next. option_map (λ a. stand a draft.new) next
+        ≡ nil_read v at (prefix_place awaits draft.old)) }
 {
-    if v != 0 || !prefix_place(draft, place)? {
+    if v != 0 || !prefix_place(draft, awaits)? {
         return Ok(None);
     }
     draft.emit(Kind::Nil, at)?;
-    let place = prefix_read(draft)?;
-    Ok(Some(place))
+    let awaits = prefix_read(draft)?;
+    Ok(Some(awaits))
+}
+
+/// The names with this one alone.
+pub(crate) fn one(alloc: Global, name: Occ) -> Result<Occs, NoMemory>
+    ensures { IfOk result (λ names. names ≡ name ∷ []) }
+{
+    let mut names = Occs::new(alloc);
+    names.push(name)?;
+    Ok(names)
 }

@@ -1,74 +1,85 @@
-//! What a reserved word does at each place. `None` where it is refused there.
+//! What a reserved word does, by what is awaited. `None` where it is refused.
 
 ghost use Rattle.std.specs.Prelude.{◌≡◌, ◌<◌, ◌^◌, [], IfOk};
+ghost use Rattle.std.specs.Option.{option_map};
 ghost use Rattle.cqp_reading.specs.declared.frame.Frame.TheVariants as frame;
-ghost use Rattle.cqp_reading.specs.declared.place.Place.TheVariants.{ItemWanted, MeasuredWanted};
-ghost use Rattle.cqp_reading.specs.declared.place.Place.TheVariants.{OpOpen, SigOpen};
-ghost use Rattle.cqp_reading.specs.Sketch.{gone, top, popped, weight};
+ghost use Rattle.cqp_reading.specs.declared.awaits.Awaits.TheVariants.{ItemWanted, MeasuredWanted};
+ghost use Rattle.cqp_reading.specs.declared.awaits.Awaits.TheVariants.{OpOpen, SigOpen};
+ghost use Rattle.cqp_reading.specs.DraftLists.{top, popped, weight, stand, opened};
 ghost use Rattle.cqp_reading.specs.Closing.{atom_place, expr_read, item_place, prefix_place};
 ghost use Rattle.cqp_reading.specs.Closing.{type_place};
-ghost use Rattle.cqp_reading.specs.Signs.{into, on};
-ghost use Rattle.cqp_reading.specs.Turns.{word_place, right_read, at_else, else_read, gate_word};
-ghost use Rattle.cqp_reading.specs.Turns.{gate_read, at_key, branch_word, type_word, expr_word};
+ghost use Rattle.cqp_reading.specs.Tokens.{word_place, right_read, at_else, else_read};
+ghost use Rattle.cqp_reading.specs.Tokens.{gate_of_word};
+ghost use Rattle.cqp_reading.specs.Tokens.{gate_read, at_reserved, branch_word, type_word};
+ghost use Rattle.cqp_reading.specs.Tokens.{expr_word};
 
 use crate::NoMemory;
+use crate::awaits::Awaits;
 use crate::draft::Draft;
 use crate::frame::Frame;
-use crate::place::Place;
-use crate::signs::into;
-use crate::standing::{atom, atom_place, expr_read, item_place, prefix_place};
+use crate::standing::{atom, atom_place, expr_read, into, item_place, prefix_place};
 use crate::types::{type_place, word_type};
-use cqp_grammar::Reserved;
-use cqp_postorder::Kind;
-use cqp_program::Occs;
+use cqp_grammar::ReservedWord;
+use cqp_program::{Kind, Occs};
 use cqp_syntax::{Op, Ty};
 
 /// A reserved word.
-pub(crate) fn at_key(
+pub(crate) fn at_reserved(
     draft: &mut Draft,
-    place: Place,
-    key: Reserved,
+    awaits: Awaits,
+    reserved: ReservedWord,
     at: u32,
-) -> Result<Option<Place>, NoMemory>
+) -> Result<Option<Awaits>, NoMemory>
     requires few { weight draft.old < 2 ^ 31 }
-    ensures { IfOk result (λ next. gone next draft.new ≡ at_key place draft.old key at) }
+    ensures { IfOk result (λ next. option_map (λ a. stand a draft.new) next
+        ≡ at_reserved awaits draft.old reserved at) }
 {
-    match key {
-        Reserved::Def | Reserved::New | Reserved::MakeQbit => Ok(word_place(place, key)),
-        Reserved::If | Reserved::Then | Reserved::Else => branch_word(draft, place, key, at),
-        Reserved::IntType | Reserved::UnitType => type_word(draft, place, key),
-        Reserved::QbitType | Reserved::OpType => type_word(draft, place, key),
-        key => expr_word(draft, place, key, at),
+    match reserved {
+        ReservedWord::Def | ReservedWord::New | ReservedWord::MakeQbit => Ok(word_place(
+            awaits, reserved,
+        )),
+        ReservedWord::If | ReservedWord::Then | ReservedWord::Else => branch_word(
+            draft, awaits, reserved, at,
+        ),
+        ReservedWord::IntType | ReservedWord::UnitType => type_word(draft, awaits, reserved),
+        ReservedWord::QbitType | ReservedWord::OpType => type_word(draft, awaits, reserved),
+        reserved => expr_word(draft, awaits, reserved, at),
     }
 }
 
 /// A word of a choice.
 fn branch_word(
     draft: &mut Draft,
-    place: Place,
-    key: Reserved,
+    awaits: Awaits,
+    reserved: ReservedWord,
     at: u32,
-) -> Result<Option<Place>, NoMemory>
-    ensures { IfOk result (λ next. gone next draft.new ≡ branch_word place draft.old key at) }
+) -> Result<Option<Awaits>, NoMemory>
+    ensures { IfOk result (λ next. option_map (λ a. stand a draft.new) next
+        ≡ branch_word awaits draft.old reserved at) }
 {
-    match key {
-        Reserved::If => at_if(draft, place, at),
-        Reserved::Then => at_then(draft, place),
-        Reserved::Else => at_else(draft, place),
+    match reserved {
+        ReservedWord::If => at_if(draft, awaits, at),
+        ReservedWord::Then => at_then(draft, awaits),
+        ReservedWord::Else => at_else(draft, awaits),
         _ => Ok(None),
     }
 }
 
 /// A word of a type.
-fn type_word(draft: &mut Draft, place: Place, key: Reserved) -> Result<Option<Place>, NoMemory>
+fn type_word(
+    draft: &mut Draft,
+    awaits: Awaits,
+    reserved: ReservedWord,
+) -> Result<Option<Awaits>, NoMemory>
     requires few { weight draft.old < 2 ^ 31 }
-    ensures { IfOk result (λ next. gone next draft.new ≡ type_word place draft.old key) }
+    ensures { IfOk result (λ next. option_map (λ a. stand a draft.new) next
+        ≡ type_word awaits draft.old reserved) }
 {
-    match key {
-        Reserved::IntType => word_type(draft, place, Ty::Int),
-        Reserved::UnitType => word_type(draft, place, Ty::Unit),
-        Reserved::QbitType => word_type(draft, place, Ty::Qbit),
-        Reserved::OpType => at_op(draft, place),
+    match reserved {
+        ReservedWord::IntType => word_type(draft, awaits, Ty::Int),
+        ReservedWord::UnitType => word_type(draft, awaits, Ty::Unit),
+        ReservedWord::QbitType => word_type(draft, awaits, Ty::Qbit),
+        ReservedWord::OpType => at_op(draft, awaits),
         _ => Ok(None),
     }
 }
@@ -76,124 +87,132 @@ fn type_word(draft: &mut Draft, place: Place, key: Reserved) -> Result<Option<Pl
 /// A word of an expression.
 fn expr_word(
     draft: &mut Draft,
-    place: Place,
-    key: Reserved,
+    awaits: Awaits,
+    reserved: ReservedWord,
     at: u32,
-) -> Result<Option<Place>, NoMemory>
+) -> Result<Option<Awaits>, NoMemory>
     requires few { weight draft.old < 2 ^ 31 }
-    ensures { IfOk result (λ next. gone next draft.new ≡ expr_word place draft.old key at) }
+    ensures { IfOk result (λ next. option_map (λ a. stand a draft.new) next
+        ≡ expr_word awaits draft.old reserved at) }
 {
-    match key {
-        Reserved::Measure => at_measure(draft, place, at),
-        Reserved::Sig => at_sig(draft, place, at),
-        Reserved::UnitValue => atom(draft, place, Kind::Unit, at),
-        gate => gate_read(draft, place, gate_word(gate), at),
+    match reserved {
+        ReservedWord::Measure => at_measure(draft, awaits, at),
+        ReservedWord::Sig => at_sig(draft, awaits, at),
+        ReservedWord::UnitValue => atom(draft, awaits, Kind::Unit, at),
+        gate => gate_read(draft, awaits, gate_of_word(gate), at),
     }
 }
 
 /// `def`, `new` and `qbit`.
-fn word_place(place: Place, key: Reserved) -> Option<Place>
-    ensures { result ≡ word_place place key }
+fn word_place(awaits: Awaits, reserved: ReservedWord) -> Option<Awaits>
+    ensures { result ≡ word_place awaits reserved }
 {
-    match (place, key) {
-        (Place::Definitions, Reserved::Def) => Some(Place::DefName),
-        (Place::Opened { at }, Reserved::New) => Some(Place::NewName { at }),
-        (Place::Opened { at }, Reserved::MakeQbit) => Some(Place::QbitName { at }),
+    match (awaits, reserved) {
+        (Awaits::Definitions, ReservedWord::Def) => Some(Awaits::DefName),
+        (Awaits::Opened { at }, ReservedWord::New) => Some(Awaits::NewName { at }),
+        (Awaits::Opened { at }, ReservedWord::MakeQbit) => Some(Awaits::QbitName { at }),
         _ => None,
     }
 }
 
 /// `measure`, with its offset.
-fn at_measure(draft: &mut Draft, place: Place, at: u32) -> Result<Option<Place>, NoMemory>
+fn at_measure(draft: &mut Draft, awaits: Awaits, at: u32) -> Result<Option<Awaits>, NoMemory>
     requires few { weight draft.old < 2 ^ 31 }
-    ensures { IfOk result (λ next. gone next draft.new
-        ≡ on (MeasuredWanted at []) (item_place place draft.old)) }
+    ensures { IfOk result (λ next. option_map (λ a. stand a draft.new) next
+        ≡ option_map (stand (MeasuredWanted at [])) (item_place awaits draft.old)) }
 {
-    if !item_place(draft, place)? {
+    if !item_place(draft, awaits)? {
         return Ok(None);
     }
     let qubits = Occs::new(draft.alloc());
-    Ok(Some(Place::MeasuredWanted { at, qubits }))
+    Ok(Some(Awaits::MeasuredWanted { at, qubits }))
 }
 
 /// `sig`, with its offset.
-fn at_sig(draft: &mut Draft, place: Place, at: u32) -> Result<Option<Place>, NoMemory>
+fn at_sig(draft: &mut Draft, awaits: Awaits, at: u32) -> Result<Option<Awaits>, NoMemory>
     requires few { weight draft.old < 2 ^ 31 }
-    ensures { IfOk result (λ next. gone next draft.new
-        ≡ on (SigOpen at) (atom_place place draft.old)) }
+    ensures { IfOk result (λ next. option_map (λ a. stand a draft.new) next
+        ≡ option_map (stand (SigOpen at)) (atom_place awaits draft.old)) }
 {
-    if !atom_place(draft, place)? {
+    if !atom_place(draft, awaits)? {
         return Ok(None);
     }
-    Ok(Some(Place::SigOpen { at }))
+    Ok(Some(Awaits::SigOpen { at }))
 }
 
 /// `if`, with its offset.
-fn at_if(draft: &mut Draft, place: Place, at: u32) -> Result<Option<Place>, NoMemory>
-    ensures { IfOk result (λ next. gone next draft.new
-        ≡ into (frame.Left at) ItemWanted (prefix_place place draft.old)) }
+fn at_if(draft: &mut Draft, awaits: Awaits, at: u32) -> Result<Option<Awaits>, NoMemory>
+    ensures { IfOk result (λ next. option_map (λ a. stand a draft.new) next
+        ≡ option_map (λ s. stand ItemWanted (opened (frame.Left at) s))
+        (prefix_place awaits draft.old)) }
 {
-    if !prefix_place(draft, place)? {
+    if !prefix_place(draft, awaits)? {
         return Ok(None);
     }
-    into(draft, Frame::Left { at }, Place::ItemWanted)
+    into(draft, Frame::Left { at }, Awaits::ItemWanted)
 }
 
 /// `then`.
-fn at_then(draft: &mut Draft, place: Place) -> Result<Option<Place>, NoMemory>
-    ensures { IfOk result (λ next. gone next draft.new ≡ right_read (expr_read place draft.old)) }
+fn at_then(draft: &mut Draft, awaits: Awaits) -> Result<Option<Awaits>, NoMemory>
+    ensures { IfOk result (λ next. option_map (λ a. stand a draft.new) next
+        ≡ right_read (expr_read awaits draft.old)) }
 {
-    match expr_read(draft, place)? {
-        Some(Frame::RightSide { at }) => into(draft, Frame::Then { at }, Place::PrefixWanted),
+    match expr_read(draft, awaits)? {
+        Some(Frame::RightSide { at }) => into(draft, Frame::Then { at }, Awaits::PrefixWanted),
         _ => Ok(None),
     }
 }
 
 /// `else`.
-fn at_else(draft: &mut Draft, place: Place) -> Result<Option<Place>, NoMemory>
-    ensures { IfOk result (λ next. gone next draft.new ≡ at_else place draft.old) }
+fn at_else(draft: &mut Draft, awaits: Awaits) -> Result<Option<Awaits>, NoMemory>
+    ensures { IfOk result (λ next. option_map (λ a. stand a draft.new) next
+        ≡ at_else awaits draft.old) }
 {
-    match place {
-        Place::ElseWanted => else_read(draft),
+    match awaits {
+        Awaits::ElseWanted => else_read(draft),
         _ => Ok(None),
     }
 }
 
 /// Opens the branch behind `else`.
-fn else_read(draft: &mut Draft) -> Result<Option<Place>, NoMemory>
-    ensures { IfOk result (λ next. gone next draft.new
+fn else_read(draft: &mut Draft) -> Result<Option<Awaits>, NoMemory>
+    ensures { IfOk result (λ next. option_map (λ a. stand a draft.new) next
         ≡ else_read (top draft.old) (popped draft.old)) }
 {
     match draft.close() {
-        Some(Frame::Then { at }) => into(draft, Frame::Else { at }, Place::PrefixWanted),
+        Some(Frame::Then { at }) => into(draft, Frame::Else { at }, Awaits::PrefixWanted),
         _ => Ok(None),
     }
 }
 
 /// `Op`.
-fn at_op(draft: &mut Draft, place: Place) -> Result<Option<Place>, NoMemory>
+fn at_op(draft: &mut Draft, awaits: Awaits) -> Result<Option<Awaits>, NoMemory>
     requires few { weight draft.old < 2 ^ 31 }
-    ensures { IfOk result (λ next. gone next draft.new ≡ on OpOpen (type_place place draft.old)) }
+    ensures { IfOk result (λ next. option_map (λ a. stand a draft.new) next
+        ≡ option_map (stand OpOpen) (type_place awaits draft.old)) }
 {
-    if !type_place(draft, place)? {
+    if !type_place(draft, awaits)? {
         return Ok(None);
     }
-    Ok(Some(Place::OpOpen))
+    Ok(Some(Awaits::OpOpen))
 }
 
 /// The gate of a word.
-fn gate_word(key: Reserved) -> Option<Op>
-    ensures { result ≡ gate_word key }
+fn gate_of_word(reserved: ReservedWord) -> Option<Op>
+    ensures { result ≡ gate_of_word reserved }
 {
-    match key {
-        Reserved::I => Some(Op::I),
-        Reserved::X => Some(Op::X),
-        Reserved::Y => Some(Op::Y),
-        Reserved::Z => Some(Op::Z),
-        Reserved::H => Some(Op::H),
-        Reserved::S => Some(Op::S),
-        Reserved::T => Some(Op::T),
-        Reserved::CNot => Some(Op::CNot),
+    match reserved {
+        ReservedWord::I => Some(Op::I),
+        ReservedWord::X => Some(Op::X),
+        ReservedWord::Y => Some(Op::Y),
+        ReservedWord::Z => Some(Op::Z),
+        ReservedWord::H => Some(Op::H),
+        ReservedWord::S => Some(Op::S),
+        ReservedWord::T => Some(Op::T),
+        ReservedWord::CNot => Some(Op::CNot),
+        ReservedWord::CZ => Some(Op::CZ),
+        ReservedWord::Swap => Some(Op::Swap),
+        ReservedWord::Toffoli => Some(Op::Toffoli),
         _ => None,
     }
 }
@@ -201,16 +220,16 @@ fn gate_word(key: Reserved) -> Option<Op>
 /// Reads a gate, where an atom may begin.
 fn gate_read(
     draft: &mut Draft,
-    place: Place,
+    awaits: Awaits,
     gate: Option<Op>,
     at: u32,
-) -> Result<Option<Place>, NoMemory>
+) -> Result<Option<Awaits>, NoMemory>
     requires few { weight draft.old < 2 ^ 31 }
-    ensures { IfOk result (λ next. gone next draft.new
-        ≡ gate_read gate at (atom_place place draft.old)) }
+    ensures { IfOk result (λ next. option_map (λ a. stand a draft.new) next
+        ≡ gate_read gate at (atom_place awaits draft.old)) }
 {
     match gate {
-        Some(op) => atom(draft, place, Kind::Gate { op }, at),
+        Some(op) => atom(draft, awaits, Kind::Gate { op }, at),
         None => Ok(None),
     }
 }

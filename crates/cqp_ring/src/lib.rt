@@ -7,13 +7,14 @@ mod laws;
 mod products;
 mod root;
 mod sign;
-#[cfg(test)]
-mod tests;
 mod text;
 mod weight;
 
 pub use amp::Amp;
-pub use laws::{list_laws, norm_laws, order_laws, ring_laws, sign_laws, weight_laws};
+pub use laws::{
+    list_laws, norm_laws, order_laws, parity_laws, ring_laws, root2_laws, sign_laws, sum_laws,
+    weight_laws,
+};
 pub use root::Root;
 pub use sign::Sign;
 pub use text::weight_text;

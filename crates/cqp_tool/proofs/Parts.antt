@@ -37,6 +37,7 @@ record IsBinder (n : ℕ) (r : ProcessTree) (o : Occ) (rest : List TreeNode) : T
   named : occ x ≡ o
   behind : process_nodes (n + 1) p ≡ rest
 
+-- a tree whose nodes begin with a binder of a qubit is one
 binder_tree : (n : ℕ) (r : ProcessTree) (o : Occ) (b : ℕ) (rest : List TreeNode) → process_nodes n r ≡ node.Qbit o b ∷ rest → IsBinder n r o rest
 binder_tree n (nil at) o b rest e = absurd cc
 binder_tree n (par at p q) o b rest e = absurd cc
@@ -56,6 +57,7 @@ record IsAct (n : ℕ) (r : ProcessTree) (rest : List TreeNode) : Type 0 where
   is : r ≡ act at f p
   behind : expr_nodes (n + 1) f ++ process_nodes (n + 1 + expr_size f) p ≡ rest
 
+-- a tree whose nodes begin with an action is one
 act_tree : (n : ℕ) (r : ProcessTree) (m b : ℕ) (rest : List TreeNode) → process_nodes n r ≡ node.Act m b ∷ rest → IsAct n r rest
 act_tree n (nil at) m b rest e = absurd cc
 act_tree n (par at p q) m b rest e = absurd cc
@@ -73,6 +75,7 @@ record IsGateTree (f : ExprTree) (u : Op) (ns rest : List TreeNode) : Type 0 whe
   is : f ≡ gate at u
   behind : ns ≡ rest
 
+-- an expression whose nodes begin with a gate is that gate
 gate_expr : (n : ℕ) (f : ExprTree) (u : Op) (ns rest : List TreeNode) → expr_nodes n f ++ ns ≡ node.Gate u ∷ rest → IsGateTree f u ns rest
 gate_expr n (number a v) w ns rest e = absurd cc
 gate_expr n (unit a) w ns rest e = absurd cc
@@ -92,6 +95,7 @@ record IsApplied (f : ExprTree) (o : Occ) (u : Op) (ns rest : List TreeNode) : T
   named : occ x ≡ o
   behind : ns ≡ rest
 
+-- an expression whose nodes are an application to one name and a gate applies it
 apply_expr : (n : ℕ) (f : ExprTree) (o : Occ) (m : ℕ) (u : Op) (ns rest : List TreeNode) → expr_nodes n f ++ ns ≡ node.Apply (o ∷ []) m ∷ node.Gate u ∷ rest
     → IsApplied f o u ns rest
 apply_expr n (number a v) o m w ns rest e = absurd cc
@@ -125,6 +129,7 @@ record IsGateAct (r : ProcessTree) (u : Op) (word : List ℕ) (rest : List TreeN
   named : word ≡ x.name
   nodes : AreNodes rest part
 
+-- nodes that begin with a gate on a name are those of such an action
 gate_act : (nodes : List TreeNode) (r : ProcessTree) (u : Op) (word : List ℕ) (rest : List TreeNode) → AreNodes nodes r → IsFirstAct nodes u word rest
     → IsGateAct r u word rest
 gate_act nodes r u word rest are first =
@@ -142,6 +147,7 @@ gate_act nodes r u word rest are first =
       nodes = record { first = are.first + 1 + expr_size it.f; is = sym applied.behind };
     }
 
+-- the first piece of the nodes of a tree is its first part
 pub first_part : (nodes : List TreeNode) (r : ProcessTree) (p : Piece) (rest : List TreeNode) → AreNodes nodes r → IsFirstPiece nodes p rest
     → IsFirstPart r p rest
 first_part nodes r (Qbit word) rest are first =
@@ -158,6 +164,7 @@ first_part nodes r (X word) rest are first =
     let it = gate_act nodes r op.X word.now rest are first in
     record { part = it.part; has = subst (λ t. HasPiece t (X word) it.part) (sym it.is) (applies_x it.named); nodes = it.nodes }
 
+-- the nodes of an action with a gate on a name begin with its piece
 first_act : (n at a g : ℕ) (u : Op) (x : Occurrence) (p : ProcessTree)
     → IsFirstAct (process_nodes n (act at (apply a (x ∷ []) (gate g u)) p)) u x.name (process_nodes (n + 1 + 2) p)
 first_act n at a g u x p = record { expr = _; body = _; behind = _; is = refl; applies = record { operand = occ x; number = _; named = refl; is = refl } }
@@ -182,6 +189,9 @@ no_act n at (apply a (x ∷ []) (gate g op.H)) p bound none = absurd (none.h x.n
 no_act n at (apply a (x ∷ []) (gate g op.S)) p bound none = refl
 no_act n at (apply a (x ∷ []) (gate g op.T)) p bound none = refl
 no_act n at (apply a (x ∷ []) (gate g op.CNot)) p bound none = refl
+no_act n at (apply a (x ∷ []) (gate g op.CZ)) p bound none = refl
+no_act n at (apply a (x ∷ []) (gate g op.Swap)) p bound none = refl
+no_act n at (apply a (x ∷ []) (gate g op.Toffoli)) p bound none = refl
 no_act n at (apply a (x ∷ []) (sig b f)) p bound none = refl
 no_act n at (apply a (x ∷ []) (add b f g)) p bound none = refl
 no_act n at (apply a (x ∷ []) (apply b ys f)) p bound none = refl

@@ -13,27 +13,27 @@ use Rattle.cqp_syntax.specs.Preorder.{process_nodes}
 use Rattle.cqp_syntax.specs.Binders.{binders_of}
 use Rattle.cqp_syntax.specs.Scope.{is_scoped}
 use Rattle.cqp_syntax.specs.Listing.{breadth_of, has_operands}
-use Rattle.cqp_cells.specs.Line.{IsStraight, qubits_made, h_applied}
-use Rattle.cqp_cells.specs.Progress.{names_below}
+use Rattle.cqp_line.specs.Line.{IsStraight, qubits_made, h_applied}
+use Rattle.cqp_line.specs.Progress.{names_below}
 use Rattle.cqp_grammar.specs.Trees.{ExprTree, apply, gate, ProcessTree, nil, qbit, act, ProgramTree}
 use Rattle.cqp_program.specs.declared.tree.Tree.{Tree}
 use Rattle.cqp_program.specs.Listing.{tree_lists, process_size, process_offsets}
-use Rattle.cqp_program.specs.Programs.{ProgramLists, IsListing}
+use Rattle.cqp_program.specs.Programs.{ProgramLists, IsProgramListing}
 use Rattle.cqp_tool.specs.declared.piece.Piece.{Piece}
 use Rattle.cqp_tool.specs.Pieces.{HasPiece}
 use Rattle.cqp_tool.specs.Line.{binder_of, line_of, IsLineTree}
 
 -- the nodes so far, the names that are bound, the last first, and the count of H
-pub record Sketch : Type 0 where
+pub record DraftLists : Type 0 where
   pub nodes : List Node
   pub bound : List (List ℕ)
   pub h : ℕ
 
-abbrev pub blank : Sketch
+abbrev pub blank : DraftLists
 blank = record { nodes = []; bound = []; h = 0 }
 
 -- a binder more
-abbrev pub with_binder : List ℕ → Sketch → Sketch
+abbrev pub with_binder : List ℕ → DraftLists → DraftLists
 with_binder a s = record s {
   nodes = s.nodes ++ node.Qbit (length s.bound) (length s.nodes + 1) ∷ [];
   bound = a ∷ s.bound;
@@ -45,11 +45,20 @@ gate_nodes o x n =
     node.Act (n + 1) (n + 1 + 2) ∷ node.Apply (x ∷ []) (n + 1 + 1) ∷ node.Gate o ∷ []
 
 abbrev pub h_of : Op → ℕ
+h_of op.I = 0
+h_of op.X = 0
+h_of op.Y = 0
+h_of op.Z = 0
 h_of op.H = 1
-h_of o = 0
+h_of op.S = 0
+h_of op.T = 0
+h_of op.CNot = 0
+h_of op.CZ = 0
+h_of op.Swap = 0
+h_of op.Toffoli = 0
 
 -- a gate more
-abbrev pub with_gate : Op → ℕ → Sketch → Sketch
+abbrev pub with_gate : Op → ℕ → DraftLists → DraftLists
 with_gate o x s = record s {
   nodes = s.nodes ++ gate_nodes o x (length s.nodes);
   h = s.h + h_of o;
@@ -68,9 +77,9 @@ breadth (qbit at x p) = 1 + breadth p
 breadth (act at e p) = 1 + expr_breadth e + breadth p
 breadth p = 0
 
--- The sketch is that of the tree t up to its part r. Each process that may come stands in one that
+-- The draft is that of the tree t up to its part r. Each process that may come stands in one that
 -- is known around it.
-pub record IsSketch (t r : ProcessTree) (s : Sketch) : Type 0 where
+pub record IsDraftUpTo (t r : ProcessTree) (s : DraftLists) : Type 0 where
   pub around : Process → Process
   pub behind : line_of [] t ≡ option_map around (line_of s.bound r)
   pub listed : (p : Process)
@@ -92,54 +101,54 @@ pub record IsSketch (t r : ProcessTree) (s : Sketch) : Type 0 where
   pub few_h : s.h ≤ 90
 
 -- the numbers of one piece more fit
-pub record HasRoom (s : Sketch) : Type 0 where
+pub record HasRoom (s : DraftLists) : Type 0 where
   pub nodes : length s.nodes ≤ 2 ^ 16
   pub few_qubits : length s.bound ≤ 12
   pub few_h : s.h ≤ 90
 
--- the sketch has a binder more
-pub record AddsBinder (a : List ℕ) (old new : Sketch) : Type 0 where
+-- the draft has a binder more
+pub record AddsBinder (a : List ℕ) (old new : DraftLists) : Type 0 where
   pub is : new ≡ with_binder a old
   pub few_qubits : length old.bound < 12
 
--- the name is bound, and the sketch has a gate on it more
-pub record AddsGate (o : Op) (a : List ℕ) (old new : Sketch) : Type 0 where
+-- the name is bound, and the draft has a gate on it more
+pub record AddsGate (o : Op) (a : List ℕ) (old new : DraftLists) : Type 0 where
   pub name : ℕ
   pub bound : binder_of a old.bound ≡ Some name
   pub is : new ≡ with_gate o name old
   pub few_h : old.h + h_of o ≤ 90
 
 -- the name isn't bound, or the gate is an H too many
-abbrev pub LacksGate : Op → List ℕ → Sketch → Type 0
+abbrev pub LacksGate : Op → List ℕ → DraftLists → Type 0
 LacksGate o a s = (binder_of a s.bound ≡ None) ⊎ (90 < s.h + h_of o)
 
 -- no process within the limits is that of the tree
 abbrev pub MakesNoLine : ProcessTree → Type 0
 MakesNoLine t = (p : Process) → IsLineTree t p → ⊥
 
--- the sketch has the piece more
-abbrev pub AddsPiece : Piece → Sketch → Sketch → Type 0
+-- the draft has the piece more
+abbrev pub AddsPiece : Piece → DraftLists → DraftLists → Type 0
 AddsPiece p old new =
-    (t r rest : ProcessTree) → HasPiece r p rest → IsSketch t r old → IsSketch t rest new
+    (t r rest : ProcessTree) → HasPiece r p rest → IsDraftUpTo t r old → IsDraftUpTo t rest new
 
 -- no line goes on with the piece
-abbrev pub RefusesPiece : Piece → Sketch → Type 0
+abbrev pub RefusesPiece : Piece → DraftLists → Type 0
 RefusesPiece p s =
-    (t r rest : ProcessTree) → HasPiece r p rest → IsSketch t r s → MakesNoLine t
+    (t r rest : ProcessTree) → HasPiece r p rest → IsDraftUpTo t r s → MakesNoLine t
 
 -- the lists are those of the tree, and few enough for a process
 pub record IsTree (lists : Tree) (t : ProcessTree) : Type 0 where
   pub is : lists ≡ tree_lists t
   pub few : breadth t ≤ 65536
 
--- the sketch is that of a whole tree up to its `0`, and these are the tree's offsets
-pub record IsWhole (t : ProcessTree) (at : List ℕ) (s : Sketch) : Type 0 where
+-- the draft is that of a whole tree up to its `0`, and these are the tree's offsets
+pub record IsWholeDraft (t : ProcessTree) (at : List ℕ) (s : DraftLists) : Type 0 where
   pub end : ℕ
-  pub sketch : IsSketch t (nil end) s
+  pub draft : IsDraftUpTo t (nil end) s
   pub offsets : at ≡ process_offsets t
   pub few : breadth t ≤ 65536
 
 -- the lists are those of the program, and its main process has few enough for a process
 pub record IsProgramOf (lists : ProgramLists) (t : ProgramTree) : Type 0 where
-  pub listed : IsListing lists t
+  pub listed : IsProgramListing lists t
   pub few : breadth t.main ≤ 65536

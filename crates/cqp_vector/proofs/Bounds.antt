@@ -10,29 +10,34 @@ use Rattle.cqp_ring.specs.declared.amp.Amp.{Amp}
 use Rattle.cqp_ring.specs.Amp.{AmpFits, amp_sum, amp_difference}
 use Rattle.cqp_ring.specs.Root.{norm_of, norm_sum}
 use Rattle.cqp_vector.specs.State.{amp_at}
+use Rattle.cqp_vector.specs.Pairs.{IsSmall}
 
 -- a square
-square_is : (x : ℤ) → x *ℤ x ≡ pos (nat_abs x * nat_abs x)
+pub square_is : (x : ℤ) → x *ℤ x ≡ pos (nat_abs x * nat_abs x)
 square_is (pos n) = refl
 square_is (negsuc n) = refl
 
 -- the whole part of a norm
-abbrev squares_of : Amp → ℕ
+abbrev pub squares_of : Amp → ℕ
 squares_of x = nat_abs x.a * nat_abs x.a + nat_abs x.b * nat_abs x.b + nat_abs x.c * nat_abs x.c + nat_abs x.d * nat_abs x.d
 
-norm_is_squares : (x : Amp) → (norm_of x).p ≡ pos (squares_of x)
+-- the whole part of a numerator's norm is the sum of its squares
+pub norm_is_squares : (x : Amp) → (norm_of x).p ≡ pos (squares_of x)
 norm_is_squares x = rw (square_is x.a, square_is x.b, square_is x.c, square_is x.d) refl
 
-all_squares : List Amp → ℕ
+-- the squares of all parts of all numerators, summed
+unfoldable pub all_squares : List Amp → ℕ
 all_squares [] = 0
 all_squares (x ∷ xs) = squares_of x + all_squares xs
 
-norm_sum_is_squares : (xs : List Amp) → (norm_sum xs).p ≡ pos (all_squares xs)
+-- so for a list
+pub norm_sum_is_squares : (xs : List Amp) → (norm_sum xs).p ≡ pos (all_squares xs)
 unfolding all_squares
 norm_sum_is_squares [] = refl
 norm_sum_is_squares (x ∷ xs) = rw (norm_is_squares x, norm_sum_is_squares xs) refl
 
-one_within : (xs : List Amp) (k : ℕ) → squares_of (amp_at xs k) ≤ all_squares xs
+-- the squares of one are at most those of all
+pub one_within : (xs : List Amp) (k : ℕ) → squares_of (amp_at xs k) ≤ all_squares xs
 unfolding all_squares
 one_within [] k = omega arith
 one_within (x ∷ xs) zero = omega arith
@@ -48,14 +53,8 @@ small_root n h = by_cases (cases_lt (2 ^ 45) n)
         absurd (omega arith)
     by_cases (inr less) = less
 
--- each part is at most 2^45
-record IsSmall (x : Amp) : Type 0 where
-  a_small : nat_abs x.a ≤ 2 ^ 45
-  b_small : nat_abs x.b ≤ 2 ^ 45
-  c_small : nat_abs x.c ≤ 2 ^ 45
-  d_small : nat_abs x.d ≤ 2 ^ 45
-
-small_at : (xs : List Amp) (k : ℕ) → (norm_sum xs).p ≤ℤ pos (2 ^ 90) → IsSmall (amp_at xs k)
+-- where the norm is at most 2^90, each numerator is small
+pub small_at : (xs : List Amp) (k : ℕ) → (norm_sum xs).p ≤ℤ pos (2 ^ 90) → IsSmall (amp_at xs k)
 small_at xs k bound =
     let most : pos (all_squares xs) ≤ℤ pos (2 ^ 90) = rw (norm_sum_is_squares xs) at bound in
     let within : squares_of (amp_at xs k) ≤ all_squares xs = one_within xs k in
@@ -67,12 +66,14 @@ small_at xs k bound =
       d_small = small_root _ (omega arith);
     }
 
+-- a sum of small parts fits in 128 bits
 sum_fits : (x y : ℤ) → nat_abs x ≤ 2 ^ 45 → nat_abs y ≤ 2 ^ 45 → FitsSigned w128 (x +ℤ y)
 sum_fits (pos m) (pos n) h g = omega (arith, ints)
 sum_fits (pos m) (negsuc n) h g = omega (arith, ints)
 sum_fits (negsuc m) (pos n) h g = omega (arith, ints)
 sum_fits (negsuc m) (negsuc n) h g = omega (arith, ints)
 
+-- so does a difference
 difference_fits : (x y : ℤ) → nat_abs x ≤ 2 ^ 45 → nat_abs y ≤ 2 ^ 45 → FitsSigned w128 (x -ℤ y)
 difference_fits (pos m) (pos n) h g = omega (arith, ints)
 difference_fits (pos m) (negsuc n) h g = omega (arith, ints)
@@ -80,7 +81,7 @@ difference_fits (negsuc m) (pos n) h g = omega (arith, ints)
 difference_fits (negsuc m) (negsuc n) h g = omega (arith, ints)
 
 -- the sum of two such numerators fits
-sum_of_small : (x y : Amp) → IsSmall x → IsSmall y → AmpFits (amp_sum x y)
+pub sum_of_small : (x y : Amp) → IsSmall x → IsSmall y → AmpFits (amp_sum x y)
 sum_of_small x y f g = record {
   a_fits = sum_fits x.a y.a f.a_small g.a_small;
   b_fits = sum_fits x.b y.b f.b_small g.b_small;
@@ -88,7 +89,8 @@ sum_of_small x y f g = record {
   d_fits = sum_fits x.d y.d f.d_small g.d_small;
 }
 
-difference_of_small : (x y : Amp) → IsSmall x → IsSmall y → AmpFits (amp_difference x y)
+-- so does the difference of small numerators
+pub difference_of_small : (x y : Amp) → IsSmall x → IsSmall y → AmpFits (amp_difference x y)
 difference_of_small x y f g = record {
   a_fits = difference_fits x.a y.a f.a_small g.a_small;
   b_fits = difference_fits x.b y.b f.b_small g.b_small;
@@ -100,5 +102,6 @@ difference_of_small x y f g = record {
 pub sum_at_fits : (xs : List Amp) (j k : ℕ) → (norm_sum xs).p ≤ℤ pos (2 ^ 90) → AmpFits (amp_sum (amp_at xs j) (amp_at xs k))
 sum_at_fits xs j k bound = sum_of_small (amp_at xs j) (amp_at xs k) (small_at xs j bound) (small_at xs k bound)
 
+-- so does that of two numerators of a list with a norm of at most 2^90
 pub difference_at_fits : (xs : List Amp) (j k : ℕ) → (norm_sum xs).p ≤ℤ pos (2 ^ 90) → AmpFits (amp_difference (amp_at xs j) (amp_at xs k))
 difference_at_fits xs j k bound = difference_of_small (amp_at xs j) (amp_at xs k) (small_at xs j bound) (small_at xs k bound)

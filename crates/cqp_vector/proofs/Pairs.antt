@@ -13,10 +13,12 @@ whole n q h = ap (λ t. 2 ^ t) split ∙ pow-add 2 (n - 1 - q) (1 + q) ∙ ap (�
     split : n ≡ (n - 1 - q) + (1 + q)
     split = omega arith
 
+-- a qubit's bit weighs at least 1
 pub weight_positive : (n q : ℕ) → 0 < weight_of n q
 weight_positive n q = pow_pos (n - 1 - q)
 
-above : (w m k : ℕ) → 0 < w → k < w * (2 * m) → k / w % 2 ≡ 0 → k + w < w * (2 * m)
+-- in blocks of 2 m w places, a place whose bit is 0 has one w above it
+pub above : (w m k : ℕ) → 0 < w → k < w * (2 * m) → k / w % 2 ≡ 0 → k + w < w * (2 * m)
 above w m k positive h even =
     let product : k < (2 * m) * w = omega arith in
     let d : k / w < 2 * m = (div-lt_iff_lt-mul positive).1 product in
@@ -24,6 +26,7 @@ above w m k positive h even =
     let f : w * (k / w + 2) ≤ w * (2 * m) = mul-le-mul_left w e in
     omega arith
 
+-- the partner of a place with bit 0 is a place
 pub partner_above : (n q k : ℕ) → q < n → k < 2 ^ n → qubit_bit n q k ≡ 0 → k + weight_of n q < 2 ^ n
 partner_above n q k h small even =
     let e : 2 ^ n ≡ weight_of n q * (2 * 2 ^ q) = whole n q h in
@@ -31,6 +34,7 @@ partner_above n q k h small even =
     let f : k + weight_of n q < weight_of n q * (2 * 2 ^ q) = above (weight_of n q) (2 ^ q) k (weight_positive n q) within even in
     omega arith
 
+-- a place whose bit isn't 0 is at least the bit's weight
 pub partner_below : (n q k : ℕ) → qubit_bit n q k ≢ 0 → weight_of n q ≤ k
 partner_below n q k odd = by_cases (cases_lt k (weight_of n q))
   where

@@ -1,40 +1,34 @@
 -- Sums of norms over places, and maps that keep sums.
 use Rattle.std.proofs.Common.{◌≡◌, ℕ, zero, suc, ◌+◌, ◌*◌, ◌<◌, List, [], ◌∷◌, length, map, refl}
 use Rattle.std.proofs.Common.{sym, ap, ◌∙◌, arith, subst, add-zero, zero-add, zero-mul}
-use Rattle.std.specs.Prelude.{ℤ}
 use Rattle.std.specs.List.{range_with_len}
 use Rattle.std.proofs.lemmas.Int.{ints}
 use Rattle.cqp_ring.specs.declared.amp.Amp.{Amp}
 use Rattle.cqp_ring.specs.declared.root.Root.{Root}
 use Rattle.cqp_ring.specs.Root.{root_sum, zero_root, norm_of, norm_sum}
 use Rattle.cqp_vector.specs.State.{amp_at}
-
--- norms are equal where their parts are
-pub same_root : {p q r s : ℤ} → p ≡ r → q ≡ s → let x : Root = record { p = p; q = q } in let y : Root = record { p = r; q = s } in x ≡ y
-same_root e f = cc
+use Rattle.cqp_ring.proofs.Integers.{same_root}
+use Rattle.cqp_ring.proofs.OrderSums.{zero-sum}
 
 -- f a + f (a + 1) + .., m of them
 abbrev pub sum_from : ℕ → ℕ → (ℕ → Root) → Root
 sum_from a zero f = zero_root
 sum_from a (suc m) f = root_sum (f a) (sum_from (a + 1) m f)
 
-root_sum_assoc : (x y z : Root) → root_sum (root_sum x y) z ≡ root_sum x (root_sum y z)
+-- the sum of norms associates
+pub root_sum_assoc : (x y z : Root) → root_sum (root_sum x y) z ≡ root_sum x (root_sum y z)
 root_sum_assoc x y z = same_root (omega (arith, ints)) (omega (arith, ints))
 
+-- the sum of norms commutes
 pub root_sum_comm : (x y : Root) → root_sum x y ≡ root_sum y x
 root_sum_comm x y = same_root (omega (arith, ints)) (omega (arith, ints))
 
-pub sum-zero : (x : Root) → root_sum x zero_root ≡ x
-sum-zero x = same_root (omega (arith, ints)) (omega (arith, ints))
-
-pub zero-sum : (x : Root) → root_sum zero_root x ≡ x
-zero-sum x = same_root (omega (arith, ints)) (omega (arith, ints))
-
 -- the middle two of four change places
-middle_four : (x u y v : Root) → root_sum (root_sum x u) (root_sum y v) ≡ root_sum (root_sum x y) (root_sum u v)
+pub middle_four : (x u y v : Root) → root_sum (root_sum x u) (root_sum y v) ≡ root_sum (root_sum x y) (root_sum u v)
 middle_four x u y v = same_root (omega (arith, ints)) (omega (arith, ints))
 
-sum_split : (m a n : ℕ) (f : ℕ → Root) → sum_from a (m + n) f ≡ root_sum (sum_from a m f) (sum_from (a + m) n f)
+-- a sum over m + n places is that over the first m and that over the others
+pub sum_split : (m a n : ℕ) (f : ℕ → Root) → sum_from a (m + n) f ≡ root_sum (sum_from a m f) (sum_from (a + m) n f)
 sum_split zero a n f = rw (zero-add, add-zero) (sym (zero-sum (sum_from a n f)))
 sum_split (suc m) a n f =
     rw suc-add (
@@ -52,6 +46,7 @@ pub norm_by_place : (a m : ℕ) (g : ℕ → Amp) → norm_sum (map g (range_wit
 norm_by_place a zero g = refl
 norm_by_place a (suc m) g = ap (λ t. root_sum (norm_of (g a)) t) (norm_by_place (a + 1) m g)
 
+-- the norm of a list is the sum of its places' norms, counted from a
 shifted : (ys : List Amp) (a : ℕ) (f : ℕ → Root) → ((k : ℕ) → norm_of (amp_at ys k) ≡ f (a + k)) → norm_sum ys ≡ sum_from a (length ys) f
 shifted [] a f same = refl
 shifted (y ∷ ys) a f same =
@@ -109,6 +104,7 @@ module _ (F : Root → Root) (keeps : KeepsSums F) where
   block : (w a : ℕ) (g f : ℕ → Root) → ((i : ℕ) → i < w → Pairs F g f w a i) → sum_from a (w + w) g ≡ F (sum_from a (w + w) f)
   block w a g f each = sum_split w a w g ∙ halves w a (a + w) g f each ∙ ap F (sym (sum_split w a w f))
 
+  -- one block in front of others
   more_blocks : (m w a : ℕ) (g f : ℕ → Root) → sum_from a (w + w) g ≡ F (sum_from a (w + w) f)
       → sum_from (a + (w + w)) (m * (w + w)) g ≡ F (sum_from (a + (w + w)) (m * (w + w)) f)
       → sum_from a (suc m * (w + w)) g ≡ F (sum_from a (suc m * (w + w)) f)

@@ -1,15 +1,29 @@
-//! States of qubits as vectors of exact numerators: new qubits and gates, place by place.
+//! States of qubits as exact numerators: groups of qubits as factors, with gates, joins,
+//! measurements and splits; and one vector over all qubits.
 #![tactic(auto)]
 
-mod numerators;
+mod amps;
+mod changes;
+mod factor;
+mod factor_list;
+mod gates;
+mod laws;
+mod least;
+mod odds;
+mod outcomes;
+mod pieces;
 mod places;
-#[cfg(test)]
-mod tests;
+mod products;
+mod refused;
+mod tally;
+mod totals;
 mod vector;
 
-pub use numerators::Numerators;
-use std::alloc::AllocError;
+pub use amps::Amps;
+pub use cqp_lists::NoMemory;
+pub use factor::Factor;
+pub use factor_list::FactorList;
+pub use laws::{kept_laws, least_laws, level_laws, outcome_laws, state_laws};
+pub use odds::{Odd, Odds};
+pub use refused::{JoinRefused, SplitRefused};
 pub use vector::Vector;
-
-/// Want of memory.
-pub type NoMemory = AllocError;

@@ -4,12 +4,11 @@ use Rattle.std.proofs.lemmas.Iterator.Adapters.{YieldsList-from_vec}
 use Rattle.std.proofs.lemmas.Iterator.Consumers.{YieldsList-turn, YieldsList-end}
 use Rattle.std.proofs.lemmas.List.{take_more, length_push, length-take-le}
 use Rattle.std.proofs.Math.Seq.{take-length}
-use Rattle.cqp_pool.specs.Tallies.{tally}
 use Rattle.cqp_pool.specs.Pools.{LaneState}
 use Rattle.cqp_pool.specs.Parts.{Entered}
 use Rattle.cqp_pool.specs.Rooms.{HasRoom}
 use Rattle.cqp_pool.specs.Apart.{IsApart}
-use Rattle.cqp_pool.proofs.Aparts.{apart_first, apart_more, apart_same, same_queue, door_some}
+use Rattle.cqp_pool.proofs.Aparts.{apart_first, apart_next, apart_same, same_queue, door_some}
 use Rattle.cqp_pool.proofs.Aparts.{next_lane, one_taken}
 use Rattle.cqp_pool.proofs.gather.taken_apart.Goals as goal
 
@@ -82,27 +81,17 @@ loop-lane-preserved g c =
     let old = c.loop-lane.parts in
     let new = c.add-other.new.self in
     let add = c.add-other.ensures in
-    let was = c.loop-lane.door.view in
-    let view = ap (λ (d : Entered). tally (was.parts + d.view.parts) (was.pushed ++ d.view.pushed) (was.taken ++ d.view.taken)) add.door in
     let more : length (yielded ++ lane ∷ []) + 1 ≡ k + 1 = ap (λ n. n + 1) (length_push yielded lane) in
     let left : vec_len c.args.lanes - k ≡ vec_len c.args.lanes - (length (yielded ++ lane ∷ []) + 1) + 1 = let a = next.0 in let b = c.args.lanes.ok.0
     in omega arith in
-    let len : length (take k lanes) ≡ k = length-take-le k lanes (let a = next.0 in omega arith) in
     record {
       room = add.room (vec_len c.args.lanes - (length (yielded ++ lane ∷ []) + 1)) (subst (HasRoom {T = g.row.T.Denot} old) left c.loop-lane.invariant.room);
       apart = λ pool order.
-          let before = c.loop-lane.invariant.apart pool order in
-          let number = ap (λ (l : LaneState g.row.T.Denot). l.number) next.1 ∙ order.numbers k lane next.0 ∙ sym len in
           let of_pool = ap (λ (l : LaneState g.row.T.Denot). l.pool) next.1 ∙ order.of_pool k lane next.0 in
-          let in_pool : length (take k lanes) < length pool.deques = let a = next.0 in let b = order.count in omega arith in
-          let some : 0 < length (take k lanes) = omega arith in
-          apart_same g.T.Numbered.number pool (take k lanes ++ lane ∷ []) (take (length (yielded ++ lane ∷ []) + 1) lanes)
-          (old.owns.items ++ p.own ∷ []) new.owns.items (old.rows.items ++ p.row ∷ []) new.rows.items
-          (old.kepts.items ++ p.kept ∷ []) new.kepts.items c.absorb.new.self
-          (ap (λ n. take n lanes) more ∙ take_more lanes k lane next.0 ∙ ap (λ x. take k lanes ++ x ∷ []) (sym next.1)) add.owns add.rows add.kepts
-          (apart_more g.T.Numbered.number pool lane p.own p.row p.door p.kept c.into_parts-in-loop-lane.ensures of_pool
-          (take k lanes) old.owns.items old.rows.items old.kepts.items
-          c.loop-lane.door c.absorb.new.self before number some in_pool c.absorb.ensures.queue (c.absorb.ensures.view ∙ view));
+          apart_next g.T.Numbered.number pool lane p.own p.row p.door p.kept c.into_parts-in-loop-lane.ensures of_pool lanes k _ old.owns.items
+          new.owns.items old.rows.items new.rows.items old.kepts.items new.kepts.items c.loop-lane.door c.absorb.new.self c.add-other.result more
+          (omega arith) order (c.loop-lane.invariant.apart pool order) next add.owns add.rows add.kepts add.door c.absorb.ensures.queue
+          c.absorb.ensures.view;
     }
 
 pub returns : goal.returns

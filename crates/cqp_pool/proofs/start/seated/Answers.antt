@@ -1,16 +1,15 @@
 use Rattle.std.proofs.Common.{◌≡◌, ◌+◌, ◌-◌, ◌<◌, Some, List, ◌∷◌, All}
-use Rattle.std.proofs.Common.{Vec, Global, length, take, get_or, vec_len, ap, sym, ◌∙◌, subst}
+use Rattle.std.proofs.Common.{Vec, Global, length, get_or, vec_len, ap, sym, ◌∙◌, subst}
 use Rattle.std.proofs.Common.{arith}
 use Rattle.std.specs.List.{range_with_len}
 use Rattle.std.proofs.lemmas.List.Elements.{All-cons, All-pop}
 use Rattle.cqp_pool.specs.declared.tally.Tally.{Tally}
-use Rattle.cqp_pool.specs.Tallies.{tally, new_tally}
 use Rattle.cqp_pool.specs.Pools.{DequeId, PoolId, LaneState, IsNew, numbers_of}
-use Rattle.cqp_pool.specs.Parts.{Reached, deques_in, deques_of, new_owns, new_row, stolen}
+use Rattle.cqp_pool.specs.Parts.{Reached, deques_in, deques_of, new_row, stolen}
 use Rattle.cqp_pool.proofs.Rows.{length-deques_in}
-use Rattle.cqp_pool.proofs.Seats.{deques_of-new_row, stolen-new_row, take-new_owns, popped}
-use Rattle.cqp_pool.proofs.Seats.{new_view}
-use Rattle.cqp_pool.proofs.Seats.{seats, queue_parts-after, range_one_more, all_numbers}
+use Rattle.cqp_pool.proofs.Seats.{deques_of-new_row, stolen-new_row, popped}
+use Rattle.cqp_pool.proofs.Seats.{new_view, owners_left, one_part_less, numbers_more}
+use Rattle.cqp_pool.proofs.Seats.{seats, queue_parts-after, all_numbers}
 use Rattle.cqp_pool.proofs.Seats.{whole_by_numbers}
 use Rattle.cqp_pool.proofs.start.seated.Goals as goal
 
@@ -127,35 +126,30 @@ pub loop-own-preserved : goal.loop-own-preserved
 loop-own-preserved g c =
     let n = vec_len c.args.owns in
     let k = vec_len c.loop-own.owns in
+    let m = vec_len c.pop.new.self in
     let number = c.len-number.result in
     let ids = deques_in c.args.owns.items in
     let i = c.loop-own.invariant in
     let len = c.len-number.ensures in
     let before : number + 1 ≡ k = let a = c.in-Some.ensures.cases in omega arith in
     let not_first = c.if-number-eq0.false in
-    let pool : PoolId = record { deques = ids; queue = c.args.rest.queue } in
-    let OfPool : LaneState g.row.T.Denot → Type 0 = λ s. s.pool ≡ pool in
+    let OfPool : LaneState g.row.T.Denot → Type 0 = λ s. s.pool ≡ record { deques = ids; queue = c.args.rest.queue } in
     let rows = All-pop (IsRow ids) c.loop-own.rows.items c.pop-in-Some.new.self.items (Some c.in-Some-pop.row) c.in-Some-pop.ensures.items i.rows in
-    let deques : deques_of c.in-Some-pop.row.items ≡ ids = ap deques_of rows.1 ∙ deques_of-new_row ids in
     let door = c.in_ok-door.ensures in
-    let of_pool : OfPool c.new-in-Some.result = c.new-in-Some.ensures.pool ∙ cc (deques, i.queue, door.another.0) in
+    let of_pool : OfPool c.new-in-Some.result =
+    c.new-in-Some.ensures.pool ∙ cc (ap deques_of rows.1 ∙ deques_of-new_row ids, i.queue, door.another.0) in
     let inserted = c.in_ok-insert-2.ensures.items in
-    let next : k ≡ number + 1 = sym before in
     let lt : number < n = let a = i.no_more in omega arith in
-    let one_less : k - 1 ≡ vec_len c.pop.new.self = omega arith in
-    let parts : 1024 - (n - k) - 1 ≡ 1024 - (n - vec_len c.pop.new.self) = let a = i.no_more in omega arith in
     record {
       some_left = omega arith;
       no_more = let a = i.no_more in omega arith;
       made = let a = c.in_ok-insert-2.ensures.len in let b = i.made in omega arith;
-      owns = c.in-Some.ensures.rest ∙ ap (λ l. take (k - 1) l) i.owns ∙ take-new_owns (k - 1) k (1024 - n) ids (omega arith)
-          ∙ ap (λ m. new_owns (1024 - n) (take m ids)) one_less;
+      owns = owners_left n k m ids c.loop-own.owns.items c.pop.new.self.items i.owns c.in-Some.ensures.rest (omega arith);
       rows = rows.0;
       as_many = let a = c.in-Some-pop.ensures.cases in let b = i.as_many in omega arith;
-      rest = door.view ∙ ap (λ (t : Tally). tally (t.parts - 1) t.pushed t.taken) i.rest ∙ ap new_tally parts;
+      rest = one_part_less n k m c.loop-own.rest.view c.another.new.self.view i.no_more (omega arith) door.view i.rest;
       queue = door.queue ∙ i.queue;
-      numbers = ap numbers_of inserted ∙ ap (λ m. m ∷ numbers_of c.loop-own.lanes.items) c.new-in-Some.ensures.number ∙ ap (λ l. number ∷ l) i.numbers
-          ∙ ap (λ m. number ∷ range_with_len m (n - m)) next ∙ range_one_more number n lt ∙ ap (λ m. range_with_len m (n - m)) len;
+      numbers = ap numbers_of inserted ∙ cc c.new-in-Some.ensures.number ∙ numbers_more number k n m _ before lt len i.numbers;
       of_pool = subst (All OfPool) (sym inserted) (All-cons OfPool c.new-in-Some.result c.loop-own.lanes.items of_pool i.of_pool);
       new = subst (All (IsNew {T = g.row.T.Denot})) (sym inserted) (All-cons IsNew c.new-in-Some.result c.loop-own.lanes.items c.new-in-Some.ensures.new i.new);
     }

@@ -14,8 +14,8 @@ loop-fragment-init c =
       read = refl;
     })
 
-pub parts_of-requires : goal.parts_of-requires
-parts_of-requires c =
+pub part_count-requires : goal.part_count-requires
+part_count-requires c =
     let fits =
     next_ready _ _ _ _ c.loop-fragment-test.true c.fragment-item.is
     c.loop-fragment.invariant.ready in
@@ -26,11 +26,11 @@ take_last-size-requires-clause-enough c =
     let fits =
     next_ready _ _ _ _ c.loop-fragment-test.true c.fragment-item.is
     c.loop-fragment.invariant.ready in
-    omega (arith, c.parts_of.ensures, fits.0)
+    omega (arith, c.part_count.ensures, fits.0)
 
 pub overflow_add-size : goal.overflow_add-size
 overflow_add-size c =
-    let within = last_within c.parts_of.result c.loop-fragment.complete.items in
+    let within = last_within c.part_count.result c.loop-fragment.complete.items in
     omega (
       arith,
       within,
@@ -47,10 +47,10 @@ loop-fragment-preserved c =
     let old = c.loop-fragment.invariant in
     let next = next_ready _ _ _ _ c.loop-fragment-test.true c.fragment-item.is old.ready in
     let size : 1 + c.take_last-size.result ≡ 1 + last_sum count complete =
-    ap (λ n. 1 + n) (rw c.parts_of.ensures at c.take_last-size.ensures.total) in
+    ap (λ n. 1 + n) (rw c.part_count.ensures at c.take_last-size.ensures.total) in
     let now : c.push.new.self.items ≡ closed count complete =
     c.in_ok-push.ensures.items
-    ∙ rw (c.take_last-size.ensures.rest, c.parts_of.ensures, size) refl in
+    ∙ rw (c.take_last-size.ensures.rest, c.part_count.ensures, size) refl in
     rw (now, c.in_ok-push-2.ensures.items, size)
     (record {
       ready = next.1;

@@ -1,0 +1,4 @@
+pub mod Entries
+pub mod Limits
+pub mod LineSteps
+pub mod Lines

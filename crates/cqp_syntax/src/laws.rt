@@ -1,0 +1,12 @@
+//! Laws of the words of the language. Each call does nothing, and its contract is the law.
+
+ghost use Rattle.std.specs.Prelude.{◌≡◌, ℕ, List, true};
+ghost use Rattle.cqp_syntax.specs.declared.op.Op.{Op};
+ghost use Rattle.cqp_syntax.specs.Gates.{is_same_op};
+ghost use Rattle.cqp_syntax.specs.Lists.{is_same_list};
+
+/// What passes a test of sameness is the same: two gates, and two lists of numbers.
+pub fn sameness_laws()
+    ensures gates { (o u : Op) → is_same_op o u ≡ true → o ≡ u }
+    ensures lists { (xs ys : List ℕ) → is_same_list xs ys ≡ true → xs ≡ ys }
+{}
