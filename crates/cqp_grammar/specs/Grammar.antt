@@ -1,6 +1,6 @@
 -- The grammar, rule by rule. 'IsX tokens tree rest' says that the tokens begin with an X that
 -- stands for the tree, and that rest follows it.
-use Rattle.std.specs.Prelude.{ℕ, List, [], ◌∷◌, ◌≡◌}
+use Rattle.std.specs.Prelude.{ℕ, List, [], ◌∷◌, ◌≡◌, Option, Some, None}
 use Rattle.cqp_syntax.specs.declared.op.Op.{Op}
 use Rattle.cqp_syntax.specs.declared.op.Op.TheVariants as op
 use Rattle.cqp_syntax.specs.Gates.{IsPlaceCount}
@@ -74,6 +74,21 @@ gate_word op.CNot = word.CNot
 gate_word op.CZ = word.CZ
 gate_word op.Swap = word.Swap
 gate_word op.Toffoli = word.Toffoli
+
+-- the gate of a reserved word, where it is that of one
+abbrev pub gate_of_word : ReservedWord → Option Op
+gate_of_word word.I = Some op.I
+gate_of_word word.X = Some op.X
+gate_of_word word.Y = Some op.Y
+gate_of_word word.Z = Some op.Z
+gate_of_word word.H = Some op.H
+gate_of_word word.S = Some op.S
+gate_of_word word.T = Some op.T
+gate_of_word word.CNot = Some op.CNot
+gate_of_word word.CZ = Some op.CZ
+gate_of_word word.Swap = Some op.Swap
+gate_of_word word.Toffoli = Some op.Toffoli
+gate_of_word k = None
 
 -- the tokens begin with a name
 abbrev pub StartsWithName : List Token → Type 0

@@ -6,7 +6,6 @@ ghost use Rattle.cqp_grammar.specs.declared.token.ReservedWord.TheVariants.{Meas
 ghost use Rattle.cqp_grammar.specs.declared.token.SymbolKind.TheVariants.{Applies, Open};
 ghost use Rattle.cqp_grammar.specs.Trees.{Parameter};
 ghost use Rattle.cqp_grammar.specs.Canonical.{in_parentheses};
-ghost use Rattle.cqp_grammar.specs.Grammar.{gate_word};
 ghost use Rattle.cqp_syntax.specs.TypeTrees.{TypeTree};
 ghost use Rattle.cqp_program.specs.Listing.{param, ty_tree};
 ghost use Rattle.cqp_print.specs.Written.{after};
@@ -16,9 +15,8 @@ ghost use Rattle.cqp_print.specs.Trees.{new_head, qbit_head, input_head, output_
 
 use crate::NoMemory;
 use crate::writer::Writer;
-use cqp_grammar::{ReservedWord, SymbolKind};
+use cqp_grammar::{ReservedWord, SymbolKind, gate_word};
 use cqp_program::{Occ, Param, TreeNode, TyTree};
-use cqp_syntax::Op;
 
 impl Writer {
     /// Writes what of a node stands before its parts.
@@ -133,24 +131,5 @@ impl Writer {
         self.symbol(SymbolKind::Open)?;
         self.names(args)?;
         self.symbol(SymbolKind::Close)
-    }
-}
-
-/// The reserved word of a gate.
-fn gate_word(op: Op) -> ReservedWord
-    ensures { result ≡ gate_word op }
-{
-    match op {
-        Op::I => ReservedWord::I,
-        Op::X => ReservedWord::X,
-        Op::Y => ReservedWord::Y,
-        Op::Z => ReservedWord::Z,
-        Op::H => ReservedWord::H,
-        Op::S => ReservedWord::S,
-        Op::T => ReservedWord::T,
-        Op::CNot => ReservedWord::CNot,
-        Op::CZ => ReservedWord::CZ,
-        Op::Swap => ReservedWord::Swap,
-        Op::Toffoli => ReservedWord::Toffoli,
     }
 }

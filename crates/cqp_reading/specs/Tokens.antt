@@ -7,6 +7,7 @@ use Rattle.cqp_grammar.specs.declared.token.Token.TheVariants.{Name, Number, Res
 use Rattle.cqp_grammar.specs.declared.token.Token.TheVariants.{End}
 use Rattle.cqp_grammar.specs.declared.token.ReservedWord.{ReservedWord}
 use Rattle.cqp_grammar.specs.declared.token.ReservedWord.TheVariants as word
+use Rattle.cqp_grammar.specs.Grammar.{gate_of_word}
 use Rattle.cqp_grammar.specs.declared.token.SymbolKind.{SymbolKind}
 use Rattle.cqp_grammar.specs.declared.token.SymbolKind.TheVariants as symbol
 use Rattle.cqp_syntax.specs.declared.op.Op.{Op}
@@ -96,21 +97,6 @@ else_read f s = None
 abbrev pub at_else : Awaits → DraftLists → Option Stand
 at_else awaits.ElseWanted s = else_read (top s) (popped s)
 at_else p s = None
-
--- the gate of a word
-abbrev pub gate_of_word : ReservedWord → Option Op
-gate_of_word word.I = Some op.I
-gate_of_word word.X = Some op.X
-gate_of_word word.Y = Some op.Y
-gate_of_word word.Z = Some op.Z
-gate_of_word word.H = Some op.H
-gate_of_word word.S = Some op.S
-gate_of_word word.T = Some op.T
-gate_of_word word.CNot = Some op.CNot
-gate_of_word word.CZ = Some op.CZ
-gate_of_word word.Swap = Some op.Swap
-gate_of_word word.Toffoli = Some op.Toffoli
-gate_of_word k = None
 
 -- a gate, where an atom may begin
 abbrev pub gate_read : Option Op → ℕ → Option DraftLists → Option Stand

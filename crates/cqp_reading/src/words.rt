@@ -9,7 +9,6 @@ ghost use Rattle.cqp_reading.specs.DraftLists.{top, popped, weight, stand, opene
 ghost use Rattle.cqp_reading.specs.Closing.{atom_place, expr_read, item_place, prefix_place};
 ghost use Rattle.cqp_reading.specs.Closing.{type_place};
 ghost use Rattle.cqp_reading.specs.Tokens.{word_place, right_read, at_else, else_read};
-ghost use Rattle.cqp_reading.specs.Tokens.{gate_of_word};
 ghost use Rattle.cqp_reading.specs.Tokens.{gate_read, at_reserved, branch_word, type_word};
 ghost use Rattle.cqp_reading.specs.Tokens.{expr_word};
 
@@ -19,7 +18,7 @@ use crate::draft::Draft;
 use crate::frame::Frame;
 use crate::standing::{atom, atom_place, expr_read, into, item_place, prefix_place};
 use crate::types::{type_place, word_type};
-use cqp_grammar::ReservedWord;
+use cqp_grammar::{ReservedWord, gate_of_word};
 use cqp_program::{Kind, Occs};
 use cqp_syntax::{Op, Ty};
 
@@ -195,26 +194,6 @@ fn at_op(draft: &mut Draft, awaits: Awaits) -> Result<Option<Awaits>, NoMemory>
         return Ok(None);
     }
     Ok(Some(Awaits::OpOpen))
-}
-
-/// The gate of a word.
-fn gate_of_word(reserved: ReservedWord) -> Option<Op>
-    ensures { result ≡ gate_of_word reserved }
-{
-    match reserved {
-        ReservedWord::I => Some(Op::I),
-        ReservedWord::X => Some(Op::X),
-        ReservedWord::Y => Some(Op::Y),
-        ReservedWord::Z => Some(Op::Z),
-        ReservedWord::H => Some(Op::H),
-        ReservedWord::S => Some(Op::S),
-        ReservedWord::T => Some(Op::T),
-        ReservedWord::CNot => Some(Op::CNot),
-        ReservedWord::CZ => Some(Op::CZ),
-        ReservedWord::Swap => Some(Op::Swap),
-        ReservedWord::Toffoli => Some(Op::Toffoli),
-        _ => None,
-    }
 }
 
 /// Reads a gate, where an atom may begin.
