@@ -2,3 +2,4 @@ pub mod Entries
 pub mod Limits
 pub mod LineSteps
 pub mod Lines
+pub mod ShapeLemmas

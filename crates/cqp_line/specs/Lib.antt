@@ -1,3 +1,4 @@
 pub mod Line
 pub mod Progress
+pub mod Shapes
 pub mod Strokes

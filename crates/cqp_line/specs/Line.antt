@@ -16,12 +16,6 @@ pub data IsLineGate : Op → Type 0 where
   is_h : IsLineGate op.H
   is_x : IsLineGate op.X
 
--- the expression is a gate on a name
-pub record IsGateOnName (e : Expr) : Type 0 where
-  pub gate : Op
-  pub name : ℕ
-  pub is : e ≡ gate_on_name gate name
-
 pub data IsStraight : Process → Type 0 where
   ends : IsStraight nil
   binds : {x : ℕ} {p : Process} → IsStraight p → IsStraight (qbit x p)

@@ -23,6 +23,7 @@ use Rattle.cqp_syntax.proofs.Bools.{fails, both}
 breadths : (xs ys : List Node) → sum_by breadth_of (xs ++ ys) ≡ sum_by breadth_of xs + sum_by breadth_of ys
 breadths = sum_by-append breadth_of
 
+-- a process binds no more names than it counts as
 binders_within : (n : ℕ) (p : Process) → length (binders_of p) ≤ sum_by breadth_of (process_nodes n p)
 binders_within n nil = omega arith
 binders_within n (par p q) =
@@ -71,6 +72,7 @@ names_within l p is =
 abbrev Below : ℕ → List ℕ → Type 0
 Below k xs = AllByRecursion (λ x. x < k) xs
 
+-- a name among names below k is below k
 bound_below : (k x : ℕ) (bound : List ℕ) → Below k bound → list_any (λ y. x == y) bound ≡ true → x < k
 bound_below k x [] b h = absurd (fails h)
 bound_below k x (y ∷ ys) b h = go (λ i. bound_below k x ys b.1 i) (x == y) refl h
@@ -79,19 +81,23 @@ bound_below k x (y ∷ ys) b h = go (λ i. bound_below k x ys b.1 i) (x == y) re
     go more true e i = let same : x ≡ y = grind (arith, e) in omega (arith, b.0, same)
     go more false e i = more i
 
+-- the name of a bound slot is below k
 slot_below : (k : ℕ) (bound : List ℕ) (s : Slot) → Below k bound → is_bound bound s ≡ true → name_of s < k
 slot_below k bound (named x) b h = bound_below k x bound b h
 slot_below k bound (valued v) b h = absurd (fails h)
 
+-- so are those of bound slots
 slots_below : (k : ℕ) (bound : List ℕ) (qs : List Slot) → Below k bound → list_all (is_bound bound) qs ≡ true → Below k (map name_of qs)
 slots_below k bound [] b h = tt
 slots_below k bound (q ∷ qs) b h =
     let parts = both (is_bound bound q) (list_all (is_bound bound) qs) h in (slot_below k bound q b parts.0, slots_below k bound qs b parts.1)
 
+-- names of two lists below k are below k together
 both_below : (k : ℕ) (xs ys : List ℕ) → Below k xs → Below k ys → Below k (xs ++ ys)
 both_below k [] ys a b = b
 both_below k (x ∷ xs) ys a b = (a.0, both_below k xs ys a.1 b)
 
+-- the names of binders that are below k are names below k
 names_below : (k : ℕ) (bs : List Binder) → AllByRecursion (λ b. b.name < k) bs → Below k (map (λ b. b.name) bs)
 names_below k [] a = tt
 names_below k (b ∷ bs) a = (a.0, names_below k bs a.1)

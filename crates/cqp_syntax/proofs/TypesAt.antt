@@ -25,6 +25,7 @@ same_trees f g n same (k ∷ ks) h =
     let below : k < n = grind (arith, nat_tests, parts.0) in
     ap₂ type_and (same k below) (same_trees f g n same ks parts.1)
 
+-- a type whose parts are below n has one tree over trees that agree below n
 same_tree : (f g : ℕ → TypeTree) (n : ℕ) → ((k : ℕ) → k < n → f k ≡ g k) → (t : Ty) → list_all (λ k. nat_lt k n) (parts_of t) ≡ true → tree_of f t ≡ tree_of g t
 same_tree f g n same ty.Int h = refl
 same_tree f g n same ty.Unit h = refl
@@ -32,6 +33,7 @@ same_tree f g n same ty.Qbit h = refl
 same_tree f g n same (ty.Op places) h = refl
 same_tree f g n same (ty.Chan of) h = ap chan_type (same_trees f g n same of h)
 
+-- the tree of a type is made of those before it
 tree_after : (trees : List TypeTree) (ts : List Ty) (k : ℕ) (t : Ty) → has_parts_before (length trees) ts ≡ true → slice_get ts k ≡ Some t
     → tree_in (trees_after trees ts) (length trees + k) ≡ tree_of (tree_in (trees_after trees ts)) t
 tree_after trees [] k t h found = let e : None ≡ Some t = found in absurd (cc e)
@@ -55,6 +57,7 @@ tree_after trees (s ∷ ts) (suc k) t h found =
     ap (tree_in (trees_after (trees ++ own ∷ []) ts)) place
     ∙ tree_after (trees ++ own ∷ []) ts k t (subst (λ n. has_parts_before n ts ≡ true) (sym longer) parts.1) found
 
+-- the tree of the type with a number is made of those of its parts
 pub tree_at : (types : List Ty) (n : ℕ) (t : Ty) → has_parts_before 0 types ≡ true → slice_get types n ≡ Some t → type_at types n ≡ tree_of (type_at types) t
 tree_at types n t h found = let place : 0 + n ≡ n = omega arith in ap (type_at types) (sym place) ∙ tree_after [] types n t h found
 
@@ -66,6 +69,7 @@ numbers_below m k (j ∷ js) h e =
     let below : j < m = grind (arith, nat_tests, parts.0) in
     (omega arith, numbers_below m k js h parts.1)
 
+-- the parts of a type stand before it
 parts_after : (a : ℕ) (ts : List Ty) (n count : ℕ) (t : Ty) → has_parts_before a ts ≡ true → slice_get ts n ≡ Some t → a + length ts ≤ count
     → AllByRecursion (λ j. j < count) (parts_of t)
 parts_after a [] n count t h found e = let none : None ≡ Some t = found in absurd (cc none)
@@ -77,5 +81,6 @@ parts_after a (s ∷ ts) (suc n) count t h found e =
     let parts = both (list_all (λ k. nat_lt k a) (parts_of s)) (has_parts_before (a + 1) ts) h in
     parts_after (a + 1) ts n count t parts.1 found (omega arith)
 
+-- the parts of a type are numbers of types
 pub parts_at : (types : List Ty) (n : ℕ) (t : Ty) → has_parts_before 0 types ≡ true → slice_get types n ≡ Some t → AllByRecursion (λ j. j < length types) (parts_of t)
 parts_at types n t h found = parts_after 0 types n (length types) t h found (omega arith)

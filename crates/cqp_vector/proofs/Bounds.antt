@@ -10,7 +10,7 @@ use Rattle.cqp_ring.specs.declared.amp.Amp.{Amp}
 use Rattle.cqp_ring.specs.Amp.{AmpFits, amp_sum, amp_difference}
 use Rattle.cqp_ring.specs.Root.{norm_of, norm_sum}
 use Rattle.cqp_vector.specs.State.{amp_at}
-use Rattle.cqp_vector.specs.Pairs.{IsSmall}
+use Rattle.cqp_vector.specs.Group.{IsSmall}
 
 -- a square
 pub square_is : (x : ℤ) → x *ℤ x ≡ pos (nat_abs x * nat_abs x)

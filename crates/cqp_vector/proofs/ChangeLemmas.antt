@@ -13,7 +13,8 @@ use Rattle.cqp_ring.specs.Root.{norm_sum}
 use Rattle.cqp_syntax.specs.declared.op.Op.{Op}
 use Rattle.cqp_vector.specs.State.{amp_at, weight_of, qubit_bit, with_zero}
 use Rattle.cqp_vector.specs.Gate.{after_controlled, are_ones}
-use Rattle.cqp_vector.specs.Pairs.{AreControls, IsSmall, low_after, high_after, begins, IsPairStep}
+use Rattle.cqp_vector.specs.Group.{IsSmall}
+use Rattle.cqp_vector.specs.Pairs.{AreControls, low_after, high_after, begins, IsPairStep}
 use Rattle.cqp_vector.specs.Pairs.{IsChangedBelow}
 use Rattle.cqp_vector.proofs.Bits.{bit_cases, low_place, high_place, low_bit_of}
 use Rattle.cqp_vector.proofs.Bounds.{small_at}

@@ -12,7 +12,8 @@ use Rattle.cqp_ring.proofs.NormLemmas.{amp_product_comm, norm_of-product}
 use Rattle.cqp_ring.proofs.Turns.{turned_1, turned_2, turned_4, turned_6}
 use Rattle.cqp_syntax.specs.declared.op.Op.{Op}
 use Rattle.cqp_syntax.specs.declared.op.Op.TheVariants as op
-use Rattle.cqp_vector.specs.Pairs.{IsSmall, low_after, high_after}
+use Rattle.cqp_vector.specs.Group.{IsSmall}
+use Rattle.cqp_vector.specs.Pairs.{low_after, high_after}
 use Rattle.cqp_vector.proofs.Ring.{h_doubles}
 use Rattle.cqp_ring.proofs.Integers.{same_root}
 use Rattle.cqp_vector.proofs.Sums.{root_sum_comm}

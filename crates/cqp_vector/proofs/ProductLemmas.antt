@@ -17,8 +17,7 @@ use Rattle.cqp_ring.proofs.NormOrder.{root_conjugate-product}
 use Rattle.cqp_ring.proofs.OrderSums.{at_most_along}
 use Rattle.cqp_ring.proofs.OrderProducts.{at_least_product, at_most_times, cancelled, root_product_comm, root_product_distributes}
 use Rattle.cqp_vector.specs.State.{amp_at}
-use Rattle.cqp_vector.specs.Group.{IsWithin, product_at, product_of}
-use Rattle.cqp_vector.specs.Pairs.{IsSmall}
+use Rattle.cqp_vector.specs.Group.{IsSmall, IsWithin, product_at, product_of}
 use Rattle.cqp_vector.proofs.LeastLemmas.{IsSound}
 use Rattle.cqp_vector.proofs.Levels.{products}
 use Rattle.cqp_ring.proofs.Integers.{same_root}

@@ -23,7 +23,9 @@ pub use amps::Amps;
 pub use cqp_lists::NoMemory;
 pub use factor::Factor;
 pub use factor_list::FactorList;
-pub use laws::{kept_laws, least_laws, level_laws, outcome_laws, state_laws};
+pub use laws::{
+    group_laws, kept_laws, least_laws, level_laws, outcome_laws, piece_laws, state_laws,
+};
 pub use odds::{Odd, Odds};
 pub use refused::{JoinRefused, SplitRefused};
 pub use vector::Vector;

@@ -1,2 +1,0 @@
-pub mod LineExamples
-pub mod TakenOutcomes

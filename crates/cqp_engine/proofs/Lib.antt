@@ -1,0 +1,12 @@
+mod Answered
+mod Chosen
+mod Ends
+mod Going
+mod MeetingUpcoming
+mod Outcomes
+mod OwnUpcoming
+mod PlainEnds
+mod Reasons
+mod Remade
+mod Tried
+mod UpcomingExists

@@ -1,0 +1,4 @@
+pub mod PlainRuns
+pub mod Progress
+pub mod Replays
+pub mod Upcoming

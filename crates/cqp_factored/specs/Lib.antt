@@ -1,0 +1,2 @@
+pub mod FactoredPath
+pub mod GroupLaws

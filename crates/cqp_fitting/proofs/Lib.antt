@@ -1,0 +1,6 @@
+mod Communications
+mod Entries
+mod FromDeeds
+mod FromFits
+mod RightOperands
+mod TurnStands

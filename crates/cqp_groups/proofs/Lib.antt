@@ -1,0 +1,12 @@
+mod Entering
+mod FactorLemmas
+mod GroupPieces
+mod HeldPlaces
+mod LeastLemmas
+mod NormFits
+mod RunGroups
+mod RunStates
+mod SlotLemmas
+mod StateLemmas
+mod StateOdds
+mod SumLemmas

@@ -1,0 +1,206 @@
+//! A group of qubits. Contracts see a `Group` as the machine's group: qubits, numerators, the
+//! exponent, and the qubits that are due to leave it.
+
+ghost use Rattle.std.specs.Prelude.{◌≡◌, ◌<◌, ◌≤◌, length, true, IfOk, IfErr, OnOk, OnErr};
+ghost use Rattle.cqp_ring.specs.Root.{norm_sum};
+ghost use Rattle.cqp_syntax.specs.Gates.{places_of};
+ghost use Rattle.cqp_syntax.specs.declared.op.Op.TheVariants.{H};
+ghost use Rattle.cqp_vector.specs.Measurement.{is_outcome};
+ghost use Rattle.cqp_vector.specs.Odds.{odds_of};
+ghost use Rattle.cqp_vector.specs.Places.{ArePlaces};
+ghost use Rattle.cqp_vector.specs.Group.{CanJoin, IsGroup};
+ghost use Rattle.cqp_pieces.specs.Splitting.{SplitsRightly};
+ghost use Rattle.cqp_machine.specs.Factors as words;
+ghost use Rattle.cqp_machine.specs.Factors.{due_after, factor_of, level_of, new_group, state_of};
+ghost use Rattle.cqp_machine.specs.Factors.{with_due};
+
+use crate::outcome::outcome_in;
+use crate::places::{copied, places_in};
+use cqp_ring::Root;
+use cqp_syntax::{Names, Op};
+use cqp_vector::{Factor, FactorList, NoMemory, Odds};
+use std::alloc::Global;
+use std::marker::Model;
+
+/// A factor, with the measured qubits that are due to leave it.
+#[derive(Debug, Drop)]
+pub struct Group {
+    factor: Factor,
+    due: Names,
+}
+
+impl Model for Group {
+    ghost use Rattle.cqp_machine.specs.Factors.{Held, with_due};
+
+    ghost Value = { Held };
+
+    ghost view = { λ g. with_due g.due g.factor };
+}
+
+/// Two groups that weren't joined.
+#[derive(Debug, Drop)]
+pub struct PairRefused {
+    pub left: Group,
+    pub right: Group,
+}
+
+impl Group {
+    /// Qubit `q` in state 0. An `Err` comes for want of memory alone, here and below.
+    pub fn make(alloc: Global, q: u32) -> Result<Group, NoMemory>
+        ensures { IfOk result (λ g. g ≡ new_group q) }
+    {
+        Ok(Group {
+            factor: Factor::make(alloc, q)?,
+            due: Names::new(alloc),
+        })
+    }
+
+    /// A factor with the qubits that are due.
+    pub fn of(factor: Factor, due: Names) -> Group
+        ensures { result ≡ with_due due factor }
+    {
+        Group { factor, due }
+    }
+
+    /// The qubits, in their order.
+    pub fn qubits(&self) -> &[u32]
+        ensures value { result.now ≡ self.now.qubits }
+        ensures kept { IsGroup (factor_of self.now) }
+    {
+        self.factor.qubits()
+    }
+
+    /// The qubits that are due.
+    pub fn due(&self) -> &[u32]
+        ensures { result.now ≡ self.now.due }
+    {
+        self.due.as_slice()
+    }
+
+    /// The exponent.
+    pub fn h(&self) -> u32
+        ensures { result ≡ self.now.h }
+    {
+        self.factor.h()
+    }
+
+    /// The level.
+    pub fn level(&self) -> u32
+        ensures value { result ≡ level_of self.now }
+        ensures most { result ≤ 180 }
+    {
+        self.factor.level()
+    }
+
+    /// The sum of the norms of the numerators.
+    pub fn norm(&self) -> Root
+        ensures { result ≡ norm_sum self.now.nums }
+    {
+        self.factor.norm()
+    }
+
+    /// The factor alone.
+    pub fn into_factor(self) -> Factor
+        ensures { result ≡ factor_of self }
+    {
+        let Group { factor, due: _ } = self;
+        factor
+    }
+
+    /// A gate on qubits of the group.
+    pub fn gate(&mut self, alloc: Global, op: Op, qubits: &[u32]) -> Result<(), NoMemory>
+        requires places { ArePlaces (length self.old.qubits)
+            (words.places_in self.old.qubits qubits.now) }
+        requires count { length qubits.now ≡ places_of op }
+        requires room { op ≡ H → self.old.h < 90 }
+        ensures ok { OnOk result (self.new ≡ words.gated op qubits.now self.old) }
+        ensures err { OnErr result (self.new ≡ self.old) }
+    {
+        let places = places_in(alloc, self.factor.qubits(), qubits)?;
+        self.factor.gate(op, places.as_slice());
+        Ok(())
+    }
+
+    /// The outcomes of some qubits that aren't zero, with the norms of their projections.
+    pub fn odds(&self, alloc: Global, qubits: &[u32]) -> Result<Odds, NoMemory>
+        requires places { ArePlaces (length self.now.qubits)
+            (words.places_in self.now.qubits qubits.now) }
+        requires some { 0 < length qubits.now }
+        ensures { IfOk result (λ odds. odds
+            ≡ odds_of (words.places_in self.now.qubits qubits.now) (state_of self.now)) }
+    {
+        let places = places_in(alloc, self.factor.qubits(), qubits)?;
+        self.factor.odds(alloc, places.as_slice())
+    }
+
+    /// The projection on an outcome of some qubits, which are then due where the group has several.
+    pub fn measured(&mut self, alloc: Global, qubits: &[u32], outcome: u32) -> Result<(), NoMemory>
+        requires places { ArePlaces (length self.old.qubits)
+            (words.places_in self.old.qubits qubits.now) }
+        requires outcome { is_outcome (words.places_in self.old.qubits qubits.now)
+            (state_of self.old) outcome ≡ true }
+        ensures ok { OnOk result (self.new ≡ words.measured qubits.now outcome self.old) }
+        ensures err { OnErr result (self.new ≡ self.old) }
+    {
+        let places = places_in(alloc, self.factor.qubits(), qubits)?;
+        let due = due_of(alloc, self.factor.qubits(), qubits)?;
+        self.factor.project(places.as_slice(), outcome);
+        self.due = Names::from_vec(due);
+        Ok(())
+    }
+
+    /// Both groups as one, with the qubits of `left` first.
+    pub fn join(alloc: Global, left: Group, right: Group) -> Result<Group, PairRefused>
+        requires { CanJoin (factor_of left) (factor_of right) }
+        ensures ok { IfOk result (λ g. g ≡ words.joined left right) }
+        ensures left { IfErr result (λ r. r.left ≡ left) }
+        ensures right { IfErr result (λ r. r.right ≡ right) }
+    {
+        let (first, second) = (left.due, right.due);
+        match Factor::join(alloc, left.factor, right.factor) {
+            Ok(factor) => Ok(Group::of(factor, Names::new(alloc))),
+            Err(refused) => Err(PairRefused {
+                left: Group::of(refused.left, first),
+                right: Group::of(refused.right, second),
+            }),
+        }
+    }
+
+    /// The due qubits as factors of one qubit each, and then the rest where there is one.
+    pub fn split(self, alloc: Global) -> Result<FactorList, Group>
+        requires { SplitsRightly self.due self }
+        ensures ok { IfOk result (λ list. list ≡ words.split_pieces self.due self) }
+        ensures err { IfErr result (λ g. g ≡ self) }
+    {
+        match places_in(alloc, self.factor.qubits(), self.due.as_slice()) {
+            Ok(places) => self.split_at(alloc, places),
+            Err(_) => Err(self),
+        }
+    }
+
+    // The same at the due qubits' places.
+    fn split_at(self, alloc: Global, places: Vec<u32>) -> Result<FactorList, Group>
+        requires rightly { SplitsRightly self.due self }
+        requires places { places.items ≡ words.places_in self.qubits self.due }
+        ensures ok { IfOk result (λ list. list ≡ words.split_pieces self.due self) }
+        ensures err { IfErr result (λ g. g ≡ self) }
+    {
+        let outcome = outcome_in(&self.factor, places.as_slice());
+        let Group { factor, due } = self;
+        match factor.split(alloc, places.as_slice(), outcome) {
+            Ok(list) => Ok(list),
+            Err(refused) => Err(Group::of(refused.factor, due)),
+        }
+    }
+}
+
+/// The measured qubits, where the group has others or several.
+fn due_of(alloc: Global, qubits: &[u32], measured: &[u32]) -> Result<Vec<u32>, NoMemory>
+    ensures { IfOk result (λ v. v.items ≡ due_after qubits.now measured.now) }
+{
+    if 1 < qubits.len() {
+        copied(alloc, measured)
+    } else {
+        Ok(Vec::new(alloc))
+    }
+}

@@ -1,0 +1,2 @@
+//! The sum of the groups' levels is the level of the whole state. Lemmas alone.
+#![tactic(auto)]

@@ -1,0 +1,13 @@
+pub mod After
+pub mod Cells
+pub mod Enabled
+pub mod Examples
+pub mod Factors
+pub mod Fronts
+pub mod Keys
+pub mod Machine
+pub mod Shown
+pub mod StandsFor
+pub mod Sums
+pub mod Teleported
+pub mod Touched

@@ -1,0 +1,6 @@
+mod Active
+mod Least
+mod Meeting
+mod Right
+mod Told
+mod Values

@@ -1,0 +1,13 @@
+//! Where a part goes on: from the opening, after a deed, and after values were received.
+#![tactic(auto)]
+
+mod begin;
+mod binding;
+mod going;
+mod keeping;
+mod moved;
+mod parts;
+mod spread;
+
+pub use going::{go_on, opening, receive};
+pub use parts::{Parts, Refused};

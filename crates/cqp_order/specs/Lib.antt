@@ -1,0 +1,6 @@
+pub mod Groups
+pub mod Least
+pub mod Marks
+pub mod Places
+pub mod Sides
+pub mod Stands

@@ -1,0 +1,4 @@
+pub mod Bound
+pub mod Free
+pub mod Laws
+pub mod Parts

@@ -1,0 +1,7 @@
+pub mod CountTables
+pub mod OrderTables
+pub mod Orders
+pub mod RedexCounts
+pub mod RedexPlaces
+pub mod TrailLemmas
+pub mod TrailLists

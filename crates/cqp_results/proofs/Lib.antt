@@ -1,0 +1,4 @@
+pub mod NextRedex
+pub mod OneLess
+pub mod OperandResults
+pub mod ResultLists

@@ -1,0 +1,6 @@
+//! The redexes of expressions, counted in evaluation order, and what results leave of them.
+#![tactic(auto)]
+
+mod laws;
+
+pub use laws::result_laws;

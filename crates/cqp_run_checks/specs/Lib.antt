@@ -1,0 +1,2 @@
+pub mod QubitBinders
+pub mod StraightLines

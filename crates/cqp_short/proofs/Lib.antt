@@ -1,0 +1,9 @@
+pub mod FrontBounds
+pub mod GroupCounts
+pub mod NodeBounds
+pub mod Pars
+pub mod Paying
+pub mod Room
+pub mod Short
+pub mod SizeFalls
+pub mod SizeLemmas

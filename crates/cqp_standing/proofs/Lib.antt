@@ -1,0 +1,9 @@
+pub mod Behind
+pub mod Bindings
+pub mod Closing
+pub mod Operands
+pub mod PartRedexes
+pub mod Rises
+pub mod ScopeLemmas
+pub mod StandLemmas
+pub mod SuitLemmas

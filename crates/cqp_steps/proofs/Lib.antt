@@ -1,0 +1,9 @@
+pub mod ConfigLemmas
+pub mod Falls
+pub mod Making
+pub mod PartSums
+pub mod PartsHalf
+pub mod Potentials
+pub mod RowLemmas
+pub mod StepHalf
+pub mod StepSums

@@ -1,0 +1,4 @@
+pub mod EnvLemmas
+pub mod PrefixTurns
+pub mod TurnLemmas
+pub mod TurnsTold

@@ -1,0 +1,10 @@
+//! What a part does next, as far as the part alone tells it.
+#![tactic(auto)]
+
+mod pick;
+mod step;
+mod turn;
+mod values;
+
+pub use step::turn_of;
+pub use turn::Turn;

@@ -1,0 +1,14 @@
+pub mod Checked
+pub mod Contexts
+pub mod Derivations
+pub mod Examples
+pub mod Faults
+pub mod Laws
+pub mod Marks
+pub mod Rows
+pub mod Searched
+pub mod Sending
+pub mod Tables
+pub mod Types
+pub mod Uses
+pub mod Verdict

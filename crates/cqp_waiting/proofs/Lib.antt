@@ -1,0 +1,7 @@
+pub mod ParkedLemmas
+pub mod WaitingCom
+pub mod WaitingLists
+pub mod WaitingPark
+pub mod WaitingRun
+pub mod WaitingSteps
+pub mod Waits

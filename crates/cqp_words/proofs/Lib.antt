@@ -1,0 +1,14 @@
+pub mod AskedOnce
+pub mod Bools
+pub mod Decimals
+pub mod Forms
+pub mod FoundItems
+pub mod Matching
+pub mod Parses
+pub mod Relation
+pub mod Requesting
+pub mod Scripts
+pub mod Shapes
+pub mod Values
+pub mod Walks
+pub mod WatchedOnce
