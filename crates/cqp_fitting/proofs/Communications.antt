@@ -14,8 +14,9 @@ use Rattle.cqp_meeting.specs.Laws.{FitLaw}
 use Rattle.cqp_meeting.specs.Tables.{stand_in}
 use Rattle.cqp_turns.specs.declared.turn.Turn.{Turn}
 use Rattle.cqp_turns.specs.declared.turn.Turn.TheVariants as turn
+use Rattle.cqp_turns.specs.Stands.{stand_by}
 use Rattle.cqp_turns.specs.Turns.{turn_in}
-use Rattle.cqp_fitting.specs.Deeds.{SendsOn, stand_by}
+use Rattle.cqp_fitting.specs.Deeds.{SendsOn}
 use Rattle.cqp_fitting.specs.Laws.{CommunicationLaw}
 use Rattle.cqp_fitting.proofs.TurnStands.{stand_law}
 

@@ -1,42 +1,21 @@
 -- A process stands as its turn says.
-use Rattle.std.proofs.Common.{◌≡◌, ℕ, List, Option, Some, None, ap}
+use Rattle.std.proofs.Common.{◌≡◌, ℕ, List, Option, Some, None}
 use Rattle.std.specs.Prelude.{is_none}
-use Rattle.cqp_syntax.specs.declared.op.Op.{Op}
 use Rattle.cqp_syntax.specs.declared.val.Val.{Val}
 use Rattle.cqp_syntax.specs.declared.val.Val.TheVariants as val
 use Rattle.cqp_syntax.specs.Trees.{Expr, valued, slot, Process, nil, par, new, qbit, act, input, output, branch}
-use Rattle.cqp_cells.specs.Redex.{Redex, sum, pick, gate, look, redex_of, next_redex_of, qubits_of, values_of}
-use Rattle.cqp_cells.proofs.Options.{none_is_some, same_some}
+use Rattle.cqp_cells.specs.Redex.{Redex, redex_of, next_redex_of, values_of}
+use Rattle.cqp_cells.proofs.Options.{none_is_some}
 use Rattle.cqp_order.specs.declared.stand.Stand.TheVariants.{Alone, Sends}
 use Rattle.cqp_meeting.specs.Tables.{output_stand}
 use Rattle.cqp_turns.specs.declared.turn.Turn.{Turn}
 use Rattle.cqp_turns.specs.declared.turn.Turn.TheVariants as turn
-use Rattle.cqp_turns.specs.Turns.{gate_turn, look_turn, send_turn, turn_by, turn_at, turn_after}
+use Rattle.cqp_turns.specs.Stands.{stand_by}
+use Rattle.cqp_turns.specs.Turns.{send_turn, turn_at, turn_after}
+use Rattle.cqp_turns.proofs.RedexStands.{same_stand, redex_alone}
 use Rattle.cqp_fitting.specs.Laws.{StandLaw}
-use Rattle.cqp_fitting.specs.Deeds.{stand_by}
 
--- the turn that is there stands so
-same_stand : (u t : Turn) → Some u ≡ Some t → stand_by u ≡ stand_by t
-same_stand u t h = ap stand_by (same_some h)
-
--- the turn of a gate stands alone, and so does that of a measurement
-gate_alone : (o : Op) (q : Option (List ℕ)) (t : Turn) → gate_turn o q ≡ Some t → Alone ≡ stand_by t
-gate_alone o (Some qs) t h = same_stand (turn.Gate o qs) t h
-gate_alone o None t h = absurd (none_is_some h)
-
-look_alone : (q : Option (List ℕ)) (t : Turn) → look_turn q ≡ Some t → Alone ≡ stand_by t
-look_alone (Some qs) t h = same_stand (turn.Measure qs) t h
-look_alone None t h = absurd (none_is_some h)
-
--- the turn of a redex stands alone
-redex_alone : (r : Redex) (t : Turn) → turn_by r ≡ Some t → Alone ≡ stand_by t
-redex_alone (sum (slot (valued (val.Num u))) (slot (valued (val.Num w)))) t h = same_stand (turn.Add _) t h
-redex_alone (pick (slot (valued (val.Num u)))) t h = same_stand (turn.Pick _) t h
-redex_alone (gate ss (slot (valued (val.Gate o)))) t h = gate_alone o (qubits_of ss) t h
-redex_alone (look ss) t h = look_alone (qubits_of ss) t h
-redex_alone r t h = absurd (none_is_some h)
-
--- so does that of a process that stands alone without one
+-- a process that stands alone without a redex does so with one
 either_alone : (o : Option Redex) (p : Process) (t : Turn) → (turn_at p ≡ Some t → Alone ≡ stand_by t) → turn_after o p ≡ Some t → Alone ≡ stand_by t
 either_alone (Some r) p t bare h = redex_alone r t h
 either_alone None p t bare h = bare h

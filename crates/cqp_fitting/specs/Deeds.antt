@@ -1,4 +1,4 @@
--- The deeds of a turn, its operands, and how a part with the turn stands.
+-- The deeds of a turn, and its operands.
 use Rattle.std.specs.Prelude.{◌≡◌, ℕ, ◌<◌, ◌^◌, List, length, true}
 use Rattle.cqp_syntax.specs.Gates.{places_of}
 use Rattle.cqp_syntax.specs.declared.val.Val.{Val}
@@ -7,8 +7,6 @@ use Rattle.cqp_trace.specs.declared.deed.Deed.TheVariants as deed
 use Rattle.cqp_vector.specs.State.{State}
 use Rattle.cqp_vector.specs.Measurement.{is_outcome}
 use Rattle.cqp_cells.specs.Moves.{are_operands}
-use Rattle.cqp_order.specs.declared.stand.Stand.{Stand}
-use Rattle.cqp_order.specs.declared.stand.Stand.TheVariants.{Alone, Sends, Receives}
 use Rattle.cqp_turns.specs.declared.turn.Turn.{Turn}
 use Rattle.cqp_turns.specs.declared.turn.Turn.TheVariants as turn
 
@@ -45,19 +43,6 @@ HasOperands n (turn.Measure qs) = are_operands n qs ≡ true
 HasOperands n (turn.Send k vs) = Unit {0}
 HasOperands n (turn.Receive k) = Unit {0}
 HasOperands n (turn.If answer) = Unit {0}
-
--- how a part with the turn stands
-abbrev pub stand_by : Turn → Stand
-stand_by turn.Qbit = Alone
-stand_by turn.New = Alone
-stand_by turn.Act = Alone
-stand_by (turn.Add v) = Alone
-stand_by (turn.Pick op) = Alone
-stand_by (turn.Gate op qs) = Alone
-stand_by (turn.Measure qs) = Alone
-stand_by (turn.Send k vs) = Sends k
-stand_by (turn.Receive k) = Receives k
-stand_by (turn.If answer) = Alone
 
 -- the turn is to send on the channel
 abbrev pub SendsOn : ℕ → Turn → Type 0

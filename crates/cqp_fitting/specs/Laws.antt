@@ -13,8 +13,9 @@ use Rattle.cqp_meeting.specs.Meetings.{is_communication}
 use Rattle.cqp_meeting.specs.Tables.{stand_in}
 use Rattle.cqp_turns.specs.declared.turn.Turn.{Turn}
 use Rattle.cqp_turns.specs.declared.turn.Turn.TheVariants as turn
+use Rattle.cqp_turns.specs.Stands.{stand_by}
 use Rattle.cqp_turns.specs.Turns.{turn_in}
-use Rattle.cqp_fitting.specs.Deeds.{IsDeedOf, HasOperands, SendsOn, stand_by}
+use Rattle.cqp_fitting.specs.Deeds.{IsDeedOf, HasOperands, SendsOn}
 
 -- of a process with no wrong operand exactly the deeds of its turn fit
 abbrev pub FitsLaw : Type 0

@@ -4,6 +4,8 @@ mod GroupPieces
 mod HeldPlaces
 mod LeastLemmas
 mod NormFits
+mod OutcomeLemmas
+mod PlaceLemmas
 mod RunGroups
 mod RunStates
 mod SlotLemmas

@@ -47,6 +47,18 @@ pub record CanMeasure (slots : List (Option Held)) (group : ℕ) (qs : List ℕ)
   pub held : IsHeld slots group qs
   pub some : is_outcome (places_in held.before.qubits qs) (state_of held.before) m ≡ true
 
+-- these are the places of the qubits in the group's list
+abbrev pub ArePlacesOf : List (Option Held) → ℕ → List ℕ → List ℕ → Type 0
+ArePlacesOf slots group qs places =
+    (g : Held) → groups_in slots group ≡ Some g → places ≡ places_in g.qubits qs
+
+-- a gate on some qubits, which have these places
+pub record CanGateAt (slots : List (Option Held)) (group : ℕ) (o : Op) (places : List ℕ)
+    : Type 0 where
+  pub qubits : List ℕ
+  pub can : CanGate slots group o qubits
+  pub at : ArePlacesOf slots group qubits places
+
 -- two groups that can be joined
 pub record CanPair (slots : List (Option Held)) (left right : ℕ) : Type 0 where
   pub apart : left ≢ right

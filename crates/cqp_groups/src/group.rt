@@ -1,7 +1,8 @@
 //! A group of qubits. Contracts see a `Group` as the machine's group: qubits, numerators, the
 //! exponent, and the qubits that are due to leave it.
 
-ghost use Rattle.std.specs.Prelude.{◌≡◌, ◌<◌, ◌≤◌, length, true, IfOk, IfErr, OnOk, OnErr};
+ghost use Rattle.std.specs.Prelude.{◌≡◌, ◌<◌, ◌≤◌, ℕ, List, length, true};
+ghost use Rattle.std.specs.Prelude.{IfOk, IfErr, OnOk, OnErr};
 ghost use Rattle.cqp_ring.specs.Root.{norm_sum};
 ghost use Rattle.cqp_syntax.specs.Gates.{places_of};
 ghost use Rattle.cqp_syntax.specs.declared.op.Op.TheVariants.{H};
@@ -11,11 +12,11 @@ ghost use Rattle.cqp_vector.specs.Places.{ArePlaces};
 ghost use Rattle.cqp_vector.specs.Group.{CanJoin, IsGroup};
 ghost use Rattle.cqp_pieces.specs.Splitting.{SplitsRightly};
 ghost use Rattle.cqp_machine.specs.Factors as words;
-ghost use Rattle.cqp_machine.specs.Factors.{due_after, factor_of, level_of, new_group, state_of};
+ghost use Rattle.cqp_machine.specs.Factors.{factor_of, level_of, new_group, state_of};
 ghost use Rattle.cqp_machine.specs.Factors.{with_due};
 
-use crate::outcome::outcome_in;
-use crate::places::{copied, places_in};
+use crate::outcome::{has_outcome, outcome_in};
+use crate::places::{due_of, places_in};
 use cqp_ring::Root;
 use cqp_syntax::{Names, Op};
 use cqp_vector::{Factor, FactorList, NoMemory, Odds};
@@ -107,6 +108,13 @@ impl Group {
         factor
     }
 
+    /// The places of some qubits in the list.
+    pub fn places(&self, alloc: Global, qubits: &[u32]) -> Result<Vec<u32>, NoMemory>
+        ensures { IfOk result (λ v. v.items ≡ words.places_in self.now.qubits qubits.now) }
+    {
+        places_in(alloc, self.factor.qubits(), qubits)
+    }
+
     /// A gate on qubits of the group.
     pub fn gate(&mut self, alloc: Global, op: Op, qubits: &[u32]) -> Result<(), NoMemory>
         requires places { ArePlaces (length self.old.qubits)
@@ -116,9 +124,29 @@ impl Group {
         ensures ok { OnOk result (self.new ≡ words.gated op qubits.now self.old) }
         ensures err { OnErr result (self.new ≡ self.old) }
     {
-        let places = places_in(alloc, self.factor.qubits(), qubits)?;
-        self.factor.gate(op, places.as_slice());
+        let places = self.places(alloc, qubits)?;
+        self.gate_at(op, places.as_slice());
         Ok(())
+    }
+
+    /// A gate on the qubits at these places. It takes no memory.
+    pub fn gate_at(&mut self, op: Op, places: &[u32])
+        requires places { ArePlaces (length self.old.qubits) places.now }
+        requires count { length places.now ≡ places_of op }
+        requires room { op ≡ H → self.old.h < 90 }
+        ensures { (qs : List ℕ) → places.now ≡ words.places_in self.old.qubits qs
+            → self.new ≡ words.gated op qs self.old }
+    {
+        self.factor.gate(op, places);
+    }
+
+    /// Whether the projection on an outcome of the qubits at these places isn't zero. It takes no
+    /// memory.
+    pub fn has_outcome(&self, places: &[u32], outcome: u32) -> bool
+        requires { ArePlaces (length self.now.qubits) places.now }
+        ensures { result ≡ is_outcome places.now (state_of self.now) outcome }
+    {
+        has_outcome(&self.factor, places, outcome)
     }
 
     /// The outcomes of some qubits that aren't zero, with the norms of their projections.
@@ -129,7 +157,7 @@ impl Group {
         ensures { IfOk result (λ odds. odds
             ≡ odds_of (words.places_in self.now.qubits qubits.now) (state_of self.now)) }
     {
-        let places = places_in(alloc, self.factor.qubits(), qubits)?;
+        let places = self.places(alloc, qubits)?;
         self.factor.odds(alloc, places.as_slice())
     }
 
@@ -142,11 +170,22 @@ impl Group {
         ensures ok { OnOk result (self.new ≡ words.measured qubits.now outcome self.old) }
         ensures err { OnErr result (self.new ≡ self.old) }
     {
-        let places = places_in(alloc, self.factor.qubits(), qubits)?;
-        let due = due_of(alloc, self.factor.qubits(), qubits)?;
-        self.factor.project(places.as_slice(), outcome);
-        self.due = Names::from_vec(due);
+        let places = self.places(alloc, qubits)?;
+        let due = Names::from_vec(qubits.to_vec(alloc)?);
+        self.measured_at(due, places.as_slice(), outcome);
         Ok(())
+    }
+
+    /// The same at the qubits' places. The qubits that are due keep the memory of `qubits`, and no
+    /// other is taken.
+    pub fn measured_at(&mut self, qubits: Names, places: &[u32], outcome: u32)
+        requires at { places.now ≡ words.places_in self.old.qubits qubits }
+        requires places { ArePlaces (length self.old.qubits) places.now }
+        requires outcome { is_outcome places.now (state_of self.old) outcome ≡ true }
+        ensures { self.new ≡ words.measured qubits outcome self.old }
+    {
+        self.due = due_of(self.factor.qubits(), qubits);
+        self.factor.project(places, outcome);
     }
 
     /// Both groups as one, with the qubits of `left` first.
@@ -191,16 +230,5 @@ impl Group {
             Ok(list) => Ok(list),
             Err(refused) => Err(Group::of(refused.factor, due)),
         }
-    }
-}
-
-/// The measured qubits, where the group has others or several.
-fn due_of(alloc: Global, qubits: &[u32], measured: &[u32]) -> Result<Vec<u32>, NoMemory>
-    ensures { IfOk result (λ v. v.items ≡ due_after qubits.now measured.now) }
-{
-    if 1 < qubits.len() {
-        copied(alloc, measured)
-    } else {
-        Ok(Vec::new(alloc))
     }
 }

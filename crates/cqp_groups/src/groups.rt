@@ -6,7 +6,8 @@ ghost use Rattle.std.specs.Prelude.{slice_set};
 ghost use Rattle.cqp_vector.specs.Group.{CanJoin};
 ghost use Rattle.cqp_trace.specs.declared.deed.Deed.TheVariants as deed;
 ghost use Rattle.cqp_machine.specs.After.{groups_by, groups_joined, lesser};
-ghost use Rattle.cqp_machine.specs.Factors.{factor_of, joined, least_qubit, split_pieces, with_due};
+ghost use Rattle.cqp_machine.specs.Factors.{factor_of, joined, least_qubit, new_group};
+ghost use Rattle.cqp_machine.specs.Factors.{split_pieces, with_due};
 ghost use Rattle.cqp_pieces.specs.Splitting.{SplitsRightly};
 ghost use Rattle.cqp_groups.specs.Groups.{AreMade, CanMeasure, CanPair, CanSplit, CanGate};
 ghost use Rattle.cqp_groups.specs.Groups.{as_cells, entered, groups_in, groups_split};
@@ -15,7 +16,7 @@ ghost use Rattle.cqp_vector.specs.State as state;
 ghost use Rattle.cqp_vector.specs.Measurement.{projected};
 
 use crate::group::Group;
-use crate::places::{least_qubit as least_of, lesser_of};
+use crate::places::least_qubit as least_of;
 use cqp_syntax::{Names, Op};
 use cqp_vector::{Factor, FactorList, NoMemory};
 use std::alloc::{AllocError, Global};
@@ -60,6 +61,7 @@ impl Groups {
         requires { qubit ≡ length self.old }
         ensures ok { OnOk result (groups_in self.new
             ≡ groups_by (as_cells self.old) (deed.Qbit qubit) 0) }
+        ensures list { OnOk result (self.new ≡ self.old ++ Some (new_group qubit) ∷ []) }
         ensures state { OnOk result (IsChange self.old self.new state.grown) }
         ensures made { OnOk result (length self.new ≡ length (self.old ++ None ∷ [])) }
         ensures err { OnErr result (self.new ≡ self.old) }
@@ -70,7 +72,7 @@ impl Groups {
     }
 
     // Takes the group at a number out.
-    fn take(&mut self, group: u32) -> Option<Group>
+    pub(crate) fn take(&mut self, group: u32) -> Option<Group>
         requires { group < length self.old }
         ensures value { result ≡ groups_in self.old group }
         ensures left { self.new ≡ slice_set self.old group None }
@@ -79,7 +81,7 @@ impl Groups {
     }
 
     // Puts a group at a number.
-    fn put(&mut self, number: u32, group: Group)
+    pub(crate) fn put(&mut self, number: u32, group: Group)
         requires { number < length self.old }
         ensures { self.new ≡ slice_set self.old number (Some group) }
     {
@@ -101,17 +103,13 @@ impl Groups {
         ensures made { length self.new ≡ length self.old }
         ensures err { OnErr result (self.new ≡ self.old) }
     {
-        match self.take(group) {
-            Some(mut held) => {
-                let done = held.gate(alloc, op, qubits);
-                self.put(group, held);
-                done
-            }
-            None => Ok(()),
-        }
+        let places = self.places(alloc, group, qubits)?;
+        self.gate_at(group, op, places.as_slice());
+        Ok(())
     }
 
-    /// A measurement of qubits of a group, which are then due where the group has several.
+    /// A measurement of qubits of a group, which are then due where the group has several. It takes
+    /// memory for the qubits and their places, and none for numerators.
     pub fn measured(
         &mut self,
         alloc: Global,
@@ -127,14 +125,10 @@ impl Groups {
         ensures made { length self.new ≡ length self.old }
         ensures err { OnErr result (self.new ≡ self.old) }
     {
-        match self.take(group) {
-            Some(mut held) => {
-                let done = held.measured(alloc, qubits, outcome);
-                self.put(group, held);
-                done
-            }
-            None => Ok(()),
-        }
+        let places = self.places(alloc, group, qubits)?;
+        let due = Names::from_vec(qubits.to_vec(alloc)?);
+        self.measured_at(group, due, places.as_slice(), outcome);
+        Ok(())
     }
 
     /// Both groups as one, which has the name of its least qubit.
@@ -173,7 +167,7 @@ impl Groups {
     {
         match Group::join(alloc, first, second) {
             Ok(group) => {
-                self.put(lesser_of(left, right), group);
+                self.put(left.min(right), group);
                 Ok(())
             }
             Err(refused) => {

@@ -6,6 +6,7 @@ mod groups;
 mod laws;
 mod outcome;
 mod places;
+mod prepared;
 mod readings;
 
 pub use group::{Group, PairRefused};

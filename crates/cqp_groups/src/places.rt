@@ -1,10 +1,9 @@
-//! Places of qubits in a group's list, and outcomes of places.
+//! Lists of qubits: the places of some in a group's list, its least, and those that are due.
 
-ghost use Rattle.std.specs.Prelude.{◌≡◌, ◌≤◌, ◌<◌, length, IfOk};
-ghost use Rattle.cqp_book.specs.Keys as keys;
-ghost use Rattle.cqp_machine.specs.After.{lesser};
+ghost use Rattle.std.specs.Prelude.{◌≡◌, ◌≤◌, [], length, IfOk};
 ghost use Rattle.cqp_machine.specs.Factors as words;
 
+use cqp_syntax::Names;
 use cqp_vector::NoMemory;
 use std::alloc::Global;
 
@@ -35,18 +34,6 @@ pub(crate) fn places_in(alloc: Global, qubits: &[u32], some: &[u32]) -> Result<V
     Ok(places)
 }
 
-/// Whether a number stands in a list.
-pub(crate) fn has(number: u32, list: &[u32]) -> bool
-    ensures { result ≡ keys.has number list.now }
-{
-    for x in list {
-        if *x == number {
-            return true;
-        }
-    }
-    false
-}
-
 /// The least of a list's numbers.
 pub(crate) fn least_qubit(qubits: &[u32]) -> u32
     ensures { result ≡ words.least_qubit qubits.now }
@@ -61,20 +48,22 @@ pub(crate) fn least_qubit(qubits: &[u32]) -> u32
     least
 }
 
-/// A list copied.
-pub(crate) fn copied(alloc: Global, list: &[u32]) -> Result<Vec<u32>, NoMemory>
-    ensures { IfOk result (λ v. v.items ≡ list.now) }
+/// The measured qubits, where the group has others or several; else none, in their memory.
+pub(crate) fn due_of(qubits: &[u32], measured: Names) -> Names
+    ensures { result ≡ words.due_after qubits.now measured }
 {
-    let mut copy = Vec::new(alloc);
-    for x in list {
-        copy.push(*x)?;
+    if 1 < qubits.len() {
+        measured
+    } else {
+        emptied(measured)
     }
-    Ok(copy)
 }
 
-/// The lesser of two numbers.
-pub(crate) fn lesser_of(m: u32, n: u32) -> u32
-    ensures { result ≡ lesser m n }
+/// The empty list, in the memory of these names.
+fn emptied(names: Names) -> Names
+    ensures { result ≡ [] }
 {
-    if m < n { m } else { n }
+    let mut items = names.into_vec();
+    items.clear();
+    Names::from_vec(items)
 }

@@ -8,7 +8,6 @@ ghost use Rattle.cqp_groups.specs.Groups.{factors_in, groups_in, holds};
 ghost use Rattle.cqp_groups.specs.States.{TellFactors, TellState};
 
 use crate::groups::Groups;
-use crate::places::has;
 use cqp_ring::Root;
 use cqp_vector::{FactorList, NoMemory, Odds};
 use std::alloc::Global;
@@ -59,7 +58,7 @@ impl Groups {
         ensures { result ≡ holds qubit (groups_in self.now number) }
     {
         match &self.slots[number] {
-            Some(group) => has(qubit, group.qubits()),
+            Some(group) => group.qubits().contains(&qubit),
             None => false,
         }
     }

@@ -34,7 +34,7 @@ use Rattle.cqp_factored.specs.GroupLaws.{GroupLaw, PlacesLaw}
 use Rattle.cqp_factored.proofs.RunHalf.{distinct_from}
 use Rattle.cqp_factored.proofs.RunStands.{run_stands}
 use Rattle.cqp_factored.proofs.ShownPaths.{well}
-use Rattle.cqp_telling.specs.Laws.{OddsLaw}
+use Rattle.cqp_telling.specs.Laws.{OddsLaw, OutcomeLaw}
 use Rattle.cqp_telling.specs.Told.{odds_in_group}
 use Rattle.cqp_telling.proofs.Lawful.{TotalLaw, lawful_norms}
 use Rattle.cqp_telling.proofs.Scaled.{LeastNorm, scale, scale_some, scaled}
@@ -58,7 +58,7 @@ module _ (least : LeastNorm) (c : Cells) (h : ℕ) (s : State) (x : StateStands 
   k = scale least c h s x some g G there qs dist has_all
 
   -- an outcome of the whole is one of the group
-  same_test : (m : ℕ) → is_outcome (places_in G.qubits qs) (state_of G) m ≡ is_outcome qs s m
+  pub same_test : (m : ℕ) → is_outcome (places_in G.qubits qs) (state_of G) m ≡ is_outcome qs s m
   same_test m = ap not (sym (zero_alike k (projected qs m s).nums (projection qs m G).nums
       (scale_some least c h s x some g G there qs dist has_all) (scaled least c h s x some g G there qs dist has_all m)))
 
@@ -110,3 +110,12 @@ odds_law least total_is needs are places l es last sound few run shows g G there
       lawful = subst IsLawful (sym told) (lawful_norms total_is (factor_of G) good (places_in G.qubits qs) short);
       proportional = subst (λ xs. IsProportional xs (norms_of qs leads.last.state)) (sym told) proportion;
     })
+
+-- the law: so is an outcome
+pub outcome_law : LeastNorm → OutcomeLaw
+outcome_law least l es last sound run shows g G there qs distinct inside m =
+    let leads = run_stands l sound es run in
+    let same : leads.last ≡ last = same_some {x = leads.last} {y = last} (sym leads.leads ∙ shows.path.leads) in
+    let stands = (well l sound es leads).stands in
+    same_test least (cells_of l es) (h_total (shown es)) leads.last.state stands.state stands.some g G there qs (distinct_from qs distinct) inside m
+    ∙ ap (λ (d : Config). is_outcome qs d.state m) same

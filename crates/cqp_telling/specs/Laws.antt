@@ -13,7 +13,8 @@ use Rattle.cqp_cells.specs.Lawful.{exponent_after}
 use Rattle.cqp_cells.specs.Probability.{IsProbability}
 use Rattle.cqp_engine.specs.Upcoming.{AreOddsOf}
 use Rattle.cqp_machine.specs.declared.event.Event.{Event}
-use Rattle.cqp_machine.specs.Factors.{Held}
+use Rattle.cqp_machine.specs.Factors.{Held, places_in, state_of}
+use Rattle.cqp_vector.specs.Measurement.{is_outcome}
 use Rattle.cqp_machine.specs.Machine.{factored}
 use Rattle.cqp_machine.specs.Shown.{shown, front_of, cells_of}
 use Rattle.cqp_machine.specs.Sums.{levels, weight_of_groups}
@@ -55,3 +56,12 @@ OddsLaw =
     → IsRun factored l es → ShowsPath l es last → (g : ℕ) (G : Held)
     → (cells_of l es).groups g ≡ Some G → (qs : List ℕ) → is_distinct qs ≡ true
     → list_all (λ q. has q G.qubits) qs ≡ true → AreOddsOf qs last.state (odds_in_group G qs)
+
+-- the law: a number is an outcome of distinct qubits of a group exactly where it is one in the last
+-- state
+abbrev pub OutcomeLaw : Type 0
+OutcomeLaw =
+    (l : Listing) (es : List Event) (last : Config) → IsProc l → IsRun factored l es
+    → ShowsPath l es last → (g : ℕ) (G : Held) → (cells_of l es).groups g ≡ Some G → (qs : List ℕ)
+    → is_distinct qs ≡ true → list_all (λ q. has q G.qubits) qs ≡ true → (m : ℕ)
+    → is_outcome (places_in G.qubits qs) (state_of G) m ≡ is_outcome qs last.state m

@@ -1,8 +1,9 @@
 //! What values are.
 
-ghost use Rattle.std.specs.Prelude.{◌≡◌};
+ghost use Rattle.std.specs.Prelude.{◌≡◌, ◌↔◌, IsTrue};
 ghost use Rattle.cqp_cells.specs.Moves as moves;
 ghost use Rattle.cqp_turns.specs.Turns.{number_of, gate_in, qubit_in, chan_in};
+ghost use Rattle.cqp_vector.specs.Group.{factors_left_out};
 
 use cqp_syntax::{Op, Val};
 
@@ -59,4 +60,11 @@ pub(crate) fn picked(number: u32) -> Op
     } else {
         Op::Y
     }
+}
+
+/// Whether the gate is H, which leaves out a factor.
+pub(crate) fn is_h(op: Op) -> bool
+    ensures { IsTrue result ↔ factors_left_out op ≡ 1 }
+{
+    op == Op::H
 }

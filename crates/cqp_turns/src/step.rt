@@ -108,7 +108,7 @@ fn prefix_turn(proc: &Proc, redexes: &Redexes, alloc: Global, part: &Part) -> Re
 }
 
 /// The value of an expression behind which so many results stand.
-fn value(proc: &Proc, part: &Part, n: u32, skip: usize) -> Val
+pub(crate) fn value(proc: &Proc, part: &Part, n: u32, skip: usize) -> Val
     requires rising { has_rising_names part.now.env ≡ true }
     requires operand { IsOperandAt proc.now part.now n skip }
     ensures { result ≡ operand part.now.vals skip (expr_bound part.now.env (expr_at proc.now n)) }
@@ -123,7 +123,7 @@ fn value(proc: &Proc, part: &Part, n: u32, skip: usize) -> Val
 }
 
 /// The value of a name, or `unit` where it has none.
-fn name_value(env: &Env, name: u32) -> Val
+pub(crate) fn name_value(env: &Env, name: u32) -> Val
     requires { has_rising_names env.now ≡ true }
     ensures { result ≡ val_or_unit (val_of name env.now) }
 {

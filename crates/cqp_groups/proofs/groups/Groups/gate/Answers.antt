@@ -1,31 +1,13 @@
-use Rattle.std.proofs.Common.{◌≡◌, Some, sym, ◌∙◌}
-use Rattle.cqp_machine.specs.Factors.{gated}
-use Rattle.cqp_groups.specs.Groups.{groups_in}
-use Rattle.cqp_groups.proofs.SlotLemmas.{changed_to, err_too, kept_as, ok_too, set_twice}
-use Rattle.cqp_groups.proofs.StateLemmas.{gate_state}
+use Rattle.std.proofs.Common.{sym, subst}
+use Rattle.cqp_groups.specs.Groups.{ArePlacesOf}
 use Rattle.cqp_groups.proofs.groups.Groups.gate.Goals as goal
 
-pub returns-in-Some-clause-ok : goal.returns-in-Some-clause-ok
-returns-in-Some-clause-ok c =
-    let there : groups_in c.args.self.now c.args.group ≡ Some c.in-Some.held = sym c.take.ensures.value ∙ c.in-Some.is in
-    ok_too c.gate-done.result _ _
-    (changed_to c.args.self.now c.take.new.self c.put.new.self c.args.group (gated c.args.op c.args.qubits.now) c.in-Some.held c.gate-done.new.self
-    there c.take.ensures.left c.put.ensures)
-    c.gate-done.ensures.ok
+pub returns-clause-ok : goal.returns-clause-ok
+returns-clause-ok c =
+    c.gate_at.ensures.value c.args.qubits.now
+    (subst (ArePlacesOf c.args.self.now c.args.group c.args.qubits.now) (sym c.as_slice.ensures.value) c.in_ok-places.ensures)
 
-pub returns-in-Some-clause-err : goal.returns-in-Some-clause-err
-returns-in-Some-clause-err c =
-    let there : groups_in c.args.self.now c.args.group ≡ Some c.in-Some.held = sym c.take.ensures.value ∙ c.in-Some.is in
-    err_too c.gate-done.result _ _
-    (kept_as c.args.self.now c.take.new.self c.put.new.self c.args.group c.in-Some.held c.gate-done.new.self there c.take.ensures.left c.put.ensures)
-    c.gate-done.ensures.err
-
-pub returns-in-Some-clause-state : goal.returns-in-Some-clause-state
-returns-in-Some-clause-state c =
-    let there : groups_in c.args.self.now c.args.group ≡ Some c.in-Some.held = sym c.take.ensures.value ∙ c.in-Some.is in
-    ok_too c.gate-done.result _ _
-    (λ is. gate_state c.args.self.now c.put.new.self c.args.group c.args.op c.args.qubits.now c.requires
-    (changed_to c.args.self.now c.take.new.self c.put.new.self c.args.group (gated c.args.op c.args.qubits.now) c.in-Some.held c.gate-done.new.self
-    there c.take.ensures.left c.put.ensures is)
-    (set_twice c.args.self.now c.take.new.self c.put.new.self c.args.group _ _ c.take.ensures.left c.put.ensures))
-    c.gate-done.ensures.ok
+pub returns-clause-state : goal.returns-clause-state
+returns-clause-state c =
+    c.gate_at.ensures.state c.args.qubits.now
+    (subst (ArePlacesOf c.args.self.now c.args.group c.args.qubits.now) (sym c.as_slice.ensures.value) c.in_ok-places.ensures)

@@ -1,0 +1,4 @@
+mod Events
+mod Meeting
+mod Own
+mod Seen
