@@ -41,8 +41,9 @@ pub trait Engine {
     ghost progress: { Self → Progress };
 
     /// The least part that takes part in a reduction.
-    fn least(&self) -> Option<u32>
-        ensures { IsLeastOrStuck (progress self.now).last result };
+    fn least(&mut self, alloc: Global) -> Result<Option<u32>, NoMemory>
+        ensures least { IfOk result (λ part. IsLeastOrStuck (progress self.old).last part) }
+        ensures same { progress self.new ≡ progress self.old };
 
     /// The turn of the next measurement: how many were made.
     fn turn(&self) -> u64
@@ -53,10 +54,11 @@ pub trait Engine {
         ensures { result ≡ length (progress self.now).last.parts };
 
     /// What the least part does next. A communication is with its least partner.
-    fn upcoming(&self, alloc: Global, part: u32) -> Result<Upcoming, NoMemory>
-        requires goes { CanGoOn (progress self.now).last }
-        requires least { IsLeastPart (progress self.now).last part }
-        ensures { IfOk result (λ next. IsUpcoming (progress self.now).last part next) };
+    fn upcoming(&mut self, alloc: Global, part: u32) -> Result<Upcoming, NoMemory>
+        requires goes { CanGoOn (progress self.old).last }
+        requires least { IsLeastPart (progress self.old).last part }
+        ensures next { IfOk result (λ next. IsUpcoming (progress self.old).last part next) }
+        ensures same { progress self.new ≡ progress self.old };
 
     /// The outcomes of the measurement that the part makes next, with their odds. Groups of qubits
     /// may be joined for it, which changes no configuration.

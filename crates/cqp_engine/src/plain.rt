@@ -64,12 +64,32 @@ fn advance<E: Engine, F: Fn(u64, &[Root]) -> u64>(
         (E.progress engine.old) end (E.progress engine.new) entries.new) }
 {
     progress_laws();
-    exponent_laws();
-    let Some(part) = engine.least() else {
-        return Ok(Some(End::Done {
+    match engine.least(alloc)? {
+        Some(part) => advance_by(alloc, engine, chooser, entries, part),
+        None => Ok(Some(End::Done {
             left: engine.left(),
-        }));
-    };
+        })),
+    }
+}
+
+// The same, where the part is the least.
+fn advance_by<E: Engine, F: Fn(u64, &[Root]) -> u64>(
+    alloc: Global,
+    engine: &mut E,
+    chooser: &Kept<F>,
+    entries: &mut Entries,
+    part: u32,
+) -> Result<Option<End>, NoMemory>
+    requires sound { IsSound (E.progress engine.old).opening }
+    requires kept { Chooses (F.pre chooser.now) (F.post chooser.now) }
+    requires running { IsRunning (answers_of (F.post chooser.now)) (E.progress engine.old).opening
+        (E.progress engine.old) entries.old }
+    requires least { IsLeastPart (E.progress engine.old).last part }
+    ensures { IfOk result (λ end. IsAdvanced (answers_of (F.post chooser.now))
+        (E.progress engine.old) end (E.progress engine.new) entries.new) }
+{
+    progress_laws();
+    exponent_laws();
     let entry = next_entry(alloc, engine, chooser, part)?;
     match engine.step(alloc, &entry)? {
         Fit::Made => {

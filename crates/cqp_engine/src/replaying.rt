@@ -1,12 +1,13 @@
 //! Replay: whether a trace is one of the engine's process, and else the first reason why not.
 
-ghost use Rattle.std.specs.Prelude.{◌≡◌, ◌↔◌, ◌+◌, ◌<◌, ◌^◌, IsTrue};
+ghost use Rattle.std.specs.Prelude.{◌≡◌, ◌↔◌, ◌+◌, ◌<◌, ◌^◌, IsTrue, IfOk};
 ghost use Rattle.cqp_syntax.specs.Measures.{size};
 ghost use Rattle.cqp_cells.specs.Lawful.{IsRightEnd, exponent_after};
 ghost use Rattle.cqp_engine.specs.Progress.{HasPath, IsSound, fresh};
 ghost use Rattle.cqp_engine.specs.Replays.{IsRemade, IsReplayed};
 
 use crate::engine::{Engine, Fit};
+use cqp_lists::NoMemory;
 use cqp_paths::{active_laws, progress_laws, size_laws};
 use cqp_ring::Weight;
 use cqp_trace::{End, Entry, Trace};
@@ -42,7 +43,10 @@ pub fn replay<E: Engine>(
 {
     size_laws();
     let entries = remade(alloc, engine, trace.entries.as_slice())?;
-    if !is_right_end(&*engine, trace.end) {
+    let Ok(right) = is_right_end(alloc, engine, trace.end) else {
+        return Err(ReplayEnd::NoMemory);
+    };
+    if !right {
         return Err(ReplayEnd::NotEnd { line: entries + 1 });
     }
     let right = engine.weight();
@@ -74,20 +78,21 @@ fn remade<E: Engine>(alloc: Global, engine: &mut E, entries: &[Entry]) -> Result
 }
 
 // Whether the run may end so here.
-fn is_right_end<E: Engine>(engine: &E, end: End) -> bool
-    requires path { HasPath (E.progress engine.now) }
-    requires sound { IsSound (E.progress engine.now).opening }
-    ensures { IsTrue result ↔ IsRightEnd (E.progress engine.now).last
-        (exponent_after (E.progress engine.now).entries (E.progress engine.now).last) end }
+fn is_right_end<E: Engine>(alloc: Global, engine: &mut E, end: End) -> Result<bool, NoMemory>
+    requires path { HasPath (E.progress engine.old) }
+    requires sound { IsSound (E.progress engine.old).opening }
+    ensures right { IfOk result (λ right. IsTrue right ↔ IsRightEnd (E.progress engine.old).last
+        (exponent_after (E.progress engine.old).entries (E.progress engine.old).last) end) }
+    ensures same { E.progress engine.new ≡ E.progress engine.old }
 {
     progress_laws();
     active_laws();
     match end {
-        End::Done { left } => match engine.least() {
+        End::Done { left } => Ok(match engine.least(alloc)? {
             None => engine.left() == left,
             Some(_) => false,
-        },
-        End::Stopped { part } => engine.is_at_limit() && engine.is_before_h(part),
+        }),
+        End::Stopped { part } => Ok(engine.is_at_limit() && engine.is_before_h(part)),
     }
 }
 

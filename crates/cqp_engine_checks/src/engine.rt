@@ -28,8 +28,11 @@ struct Small {
 impl Engine for Small {
     ghost progress = { λ s. fresh (opening s.busy) };
 
-    fn least(&self) -> Option<u32> {
-        if self.busy { Some(0) } else { None }
+    fn least(&mut self, _alloc: Global) -> Result<Option<u32>, NoMemory> {
+        if self.busy {
+            return Ok(Some(0));
+        }
+        Ok(None)
     }
 
     fn turn(&self) -> u64 {
@@ -40,7 +43,7 @@ impl Engine for Small {
         if self.busy { 1 } else { 0 }
     }
 
-    fn upcoming(&self, _alloc: Global, _part: u32) -> Result<Upcoming, NoMemory> {
+    fn upcoming(&mut self, _alloc: Global, _part: u32) -> Result<Upcoming, NoMemory> {
         Err(AllocError)
     }
 

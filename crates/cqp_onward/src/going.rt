@@ -10,9 +10,11 @@ ghost use Rattle.cqp_parts.specs.Parts.{IsProcessAt};
 ghost use Rattle.cqp_parts.specs.Parts.{process_of_part};
 ghost use Rattle.cqp_standing.specs.Stands.{Stands};
 ghost use Rattle.cqp_standing.specs.Suits.{suits, takes};
+ghost use Rattle.cqp_onward.specs.Leads.{LeadsOn};
 
+use crate::ahead::Ahead;
 use crate::binding::all_bound_goes;
-use crate::moved::goes_to;
+use crate::moved::{ahead_at, goes_to};
 use crate::parts::{Parts, Refused};
 use cqp_parts::{Env, Part, Vals};
 use cqp_syntax::{NoMemory, Node, Proc, Val};
@@ -78,6 +80,17 @@ fn after(proc: &Proc, uses: &Uses, alloc: Global, part: Part, deed: &Deed) -> Re
             goes_to(proc, uses, alloc, part, n)
         }
     }
+}
+
+/// Where a part goes on once it has sent. It stays as it is until then, so a caller can still
+/// refuse. `Err` is want of memory.
+pub fn look_ahead(proc: &Proc, uses: &Uses, alloc: Global, part: &Part) -> Result<Ahead, NoMemory>
+    requires uses { IsUses proc.now uses.now }
+    requires stands { Stands proc.now part.now }
+    ensures { IfOk result (λ ahead. LeadsOn proc.now part.now ahead) }
+{
+    let n = body(proc.node(part.node));
+    ahead_at(proc, uses, alloc, &part.env, n)
 }
 
 /// The parts in the place of a receiver.

@@ -1,6 +1,7 @@
 //! Where a part goes on: from the opening, after a deed, and after values were received.
 #![tactic(auto)]
 
+mod ahead;
 mod begin;
 mod binding;
 mod going;
@@ -9,5 +10,6 @@ mod moved;
 mod parts;
 mod spread;
 
-pub use going::{go_on, opening, receive};
+pub use ahead::Ahead;
+pub use going::{go_on, look_ahead, opening, receive};
 pub use parts::{Parts, Refused};

@@ -1,14 +1,14 @@
 //! Where a part goes on.
 
-ghost use Rattle.std.specs.Prelude.{◌≡◌, ◌<◌, ◌++◌, [], length, map, None, IfOk, IfErr};
+ghost use Rattle.std.specs.Prelude.{◌≡◌, ◌<◌, length, map, IfOk, IfErr};
 ghost use Rattle.std.specs.List.{AllByRecursion};
-ghost use Rattle.std.specs.Option.{option_to_list};
 ghost use Rattle.cqp_syntax.specs.Listing.{Listing};
-ghost use Rattle.cqp_parts.specs.Parts.{begins_at, parts_from};
+ghost use Rattle.cqp_parts.specs.Parts.{begins_at, parts_from, IsProcessAt};
 ghost use Rattle.cqp_uses.specs.Users.{IsUses};
-ghost use Rattle.cqp_parts.specs.Parts.{IsProcessAt};
+ghost use Rattle.cqp_onward.specs.Leads.{LeadsTo};
 
-use crate::begin::{begins, begins_apart};
+use crate::ahead::Ahead;
+use crate::begin::begins_apart;
 use crate::parts::{Parts, Refused};
 use crate::spread::prefixes;
 use cqp_parts::{Env, Part};
@@ -31,49 +31,43 @@ pub(crate) fn goes_to(
     ensures ok { IfOk result (λ parts. parts ≡ parts_from proc.now part.env n) }
     ensures err { IfErr result (λ e. e.part ≡ part) }
 {
-    match proc.node(n) {
-        Node::Nil => Ok(Parts::none(alloc)),
-        Node::Par { .. } => spread(proc, uses, alloc, part, n),
-        _ => Ok(Parts::one(alloc, begins(uses, part, n))),
-    }
-}
-
-/// The parts side by side at n. The part itself goes on at the first.
-fn spread(proc: &Proc, uses: &Uses, alloc: Global, part: Part, n: u32) -> Result<Parts, Refused>
-    requires uses { IsUses proc.now uses.now }
-    requires process { IsProcessAt proc.now n }
-    requires names { AllByRecursion (λ b. b.name < length uses.now.names) part.env }
-    ensures ok { IfOk result (λ parts. parts ≡ parts_from proc.now part.env n) }
-    ensures err { IfErr result (λ e. e.part ≡ part) }
-{
-    match apart(proc, uses, alloc, &part.env, n) {
+    match ahead_at(proc, uses, alloc, &part.env, n) {
+        Ok(ahead) => Ok(ahead.begin(uses, part)),
         Err(_) => Err(Refused { part }),
-        Ok((None, _)) => Ok(Parts::none(alloc)),
-        Ok((Some(first), others)) => Ok(Parts::many(begins(uses, part, first), others)),
     }
 }
 
-/// The first prefix at n, and parts at the others.
-fn apart(
+/// Where a part with these bindings goes on at n. One prefix alone takes no memory.
+pub(crate) fn ahead_at(
     proc: &Proc,
     uses: &Uses,
     alloc: Global,
     env: &Env,
     n: u32,
-) -> Result<(Option<u32>, Vec<Part>), NoMemory>
+) -> Result<Ahead, NoMemory>
     requires uses { IsUses proc.now uses.now }
     requires process { IsProcessAt proc.now n }
     requires names { AllByRecursion (λ b. b.name < length uses.now.names) env.now }
-    ensures all { IfOk result (λ r. map (begins_at proc.now env.now) (option_to_list r.0)
-        ++ r.1.items ≡ parts_from proc.now env.now n) }
-    ensures none { IfOk result (λ r. r.0 ≡ None → r.1.items ≡ []) }
-    ensures first { IfOk result (λ r.
-        AllByRecursion (IsProcessAt proc.now) (option_to_list r.0)) }
+    ensures { IfOk result (λ ahead. LeadsTo proc.now env.now n ahead) }
+{
+    match proc.node(n) {
+        Node::Nil => Ok(Ahead::of(None, Vec::new(alloc))),
+        Node::Par { .. } => apart(proc, uses, alloc, env, n),
+        _ => Ok(Ahead::of(Some(n), Vec::new(alloc))),
+    }
+}
+
+/// The first prefix at n, and parts at the others.
+fn apart(proc: &Proc, uses: &Uses, alloc: Global, env: &Env, n: u32) -> Result<Ahead, NoMemory>
+    requires uses { IsUses proc.now uses.now }
+    requires process { IsProcessAt proc.now n }
+    requires names { AllByRecursion (λ b. b.name < length uses.now.names) env.now }
+    ensures { IfOk result (λ ahead. LeadsTo proc.now env.now n ahead) }
 {
     let numbers = prefixes(proc, alloc, n)?;
     match numbers.as_slice() {
-        [] => Ok((None, Vec::new(alloc))),
-        [first, rest @ ..] => Ok((Some(*first), begin_all(uses, alloc, env, rest)?)),
+        [] => Ok(Ahead::of(None, Vec::new(alloc))),
+        [first, rest @ ..] => Ok(Ahead::of(Some(*first), begin_all(uses, alloc, env, rest)?)),
     }
 }
 

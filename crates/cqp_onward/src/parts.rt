@@ -36,16 +36,6 @@ impl Parts {
     ghost use Rattle.std.specs.Option.{option_to_list};
     ghost use Rattle.std.specs.Prelude.{None};
 
-    /// None. It takes no memory.
-    pub(crate) fn none(alloc: Global) -> Parts
-        ensures { result ≡ [] }
-    {
-        Parts {
-            first: None,
-            others: Vec::new(alloc),
-        }
-    }
-
     /// One, which takes no memory.
     pub(crate) fn one(alloc: Global, part: Part) -> Parts
         ensures { result ≡ part ∷ [] }
@@ -56,14 +46,12 @@ impl Parts {
         }
     }
 
-    /// One, and others behind it.
-    pub(crate) fn many(part: Part, others: Vec<Part>) -> Parts
-        ensures { result ≡ part ∷ others.items }
+    /// The one that keeps the number, if it is there, and the others.
+    pub(crate) fn from_pair(first: Option<Part>, others: Vec<Part>) -> Parts
+        requires { first ≡ None → others.items ≡ [] }
+        ensures { result ≡ option_to_list first ++ others.items }
     {
-        Parts {
-            first: Some(part),
-            others,
-        }
+        Parts { first, others }
     }
 
     /// The one that keeps the number, and the others.
