@@ -1,3 +1,9 @@
+pub mod Apart
+pub mod Endings
 pub mod Kept
+pub mod Passed
 pub mod Pushes
+pub mod Removals
+pub mod Shares
 pub mod SpreadLemmas
+pub mod Without

@@ -1,2 +1,4 @@
+pub mod Forgetting
 pub mod Leads
+pub mod Sharing
 pub mod Spreads

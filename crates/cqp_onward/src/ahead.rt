@@ -3,12 +3,12 @@
 ghost use Rattle.std.specs.Prelude.{◌≡◌, ◌<◌, ℕ, [], length, true, None};
 ghost use Rattle.std.specs.List.{AllByRecursion};
 ghost use Rattle.std.specs.Option.{option_to_list};
-ghost use Rattle.cqp_syntax.specs.Listing.{Listing};
 ghost use Rattle.cqp_trace.specs.declared.deed.Deed.TheVariants as deed;
 ghost use Rattle.cqp_parts.specs.Parts.{parts_after, process_of_part, IsProcessAt};
 ghost use Rattle.cqp_standing.specs.Stands.{Stands};
 ghost use Rattle.cqp_standing.specs.Suits.{suits};
 ghost use Rattle.cqp_uses.specs.Users.{IsUses};
+ghost use Rattle.cqp_onward.specs.Forgetting.{PrefixEnds};
 ghost use Rattle.cqp_onward.specs.Leads.{parts_by, LeadsOn};
 
 use crate::begin::begins;
@@ -55,22 +55,24 @@ impl Ahead {
             → suits (process_of_part proc.now part) (deed.Com to chan) ≡ true
             → AllByRecursion (Stands proc.now) result }
     {
-        self.begin(uses, part)
+        self.begin(proc, uses, part)
     }
 
     /// The part goes on so, after whatever deed.
-    pub(crate) fn begin(self, uses: &Uses, part: Part) -> Parts
-        requires within { AllByRecursion (λ n. n < length uses.now.ends)
-            (option_to_list self.first) }
+    pub(crate) fn begin(self, proc: &Proc, uses: &Uses, part: Part) -> Parts
+        requires uses { IsUses proc.now uses.now }
+        requires first { AllByRecursion (IsProcessAt proc.now) (option_to_list self.first) }
         requires names { AllByRecursion (λ b. b.name < length uses.now.names) part.env }
-        ensures { (l : Listing) → IsUses l uses.now
-            → AllByRecursion (IsProcessAt l) (option_to_list self.first)
-            → result ≡ parts_by l part.env self }
+        requires ends { PrefixEnds proc.now part.node part.env }
+        ensures { result ≡ parts_by proc.now part.env self }
     {
         let Ahead { first, others } = self;
         match first {
             None => Parts::from_pair(None, others),
-            Some(n) => Parts::from_pair(Some(begins(uses, part, n)), others),
+            Some(n) => {
+                let alone = others.is_empty();
+                Parts::from_pair(Some(begins(proc, uses, part, n, alone)), others)
+            }
         }
     }
 }

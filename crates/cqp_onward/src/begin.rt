@@ -1,46 +1,49 @@
-//! Parts that begin at a prefix.
+//! A part that goes on at a prefix.
 
-ghost use Rattle.std.specs.Prelude.{◌≡◌, ◌<◌, [], length, IfOk};
+ghost use Rattle.std.specs.Prelude.{◌≡◌, ◌<◌, [], length};
 ghost use Rattle.std.specs.List.{AllByRecursion};
-ghost use Rattle.cqp_syntax.specs.Listing.{Listing};
-ghost use Rattle.cqp_parts.specs.Parts.{begins_at};
+ghost use Rattle.cqp_parts.specs.Parts.{begins_at, kept_at, IsProcessAt};
 ghost use Rattle.cqp_uses.specs.Users.{IsUses};
-ghost use Rattle.cqp_parts.specs.Parts.{IsProcessAt};
+ghost use Rattle.cqp_onward.specs.Forgetting.{PrefixEnds};
 
-use crate::keeping::{keep, kept};
+use crate::forgetting::keep_on;
+use crate::keeping::keep;
 use cqp_lists::List;
 use cqp_parts::{Env, Part, Vals};
-use cqp_syntax::NoMemory;
+use cqp_syntax::Proc;
 use cqp_uses::Uses;
-use std::alloc::Global;
 
-/// The part goes on at the prefix n. It takes no memory, and copies nothing.
-pub(crate) fn begins(uses: &Uses, part: Part, n: u32) -> Part
-    requires within { n < length uses.now.ends }
+/// The part goes on at the prefix n, alone or as the first of several. It takes no memory, and
+/// copies nothing.
+pub(crate) fn begins(proc: &Proc, uses: &Uses, part: Part, n: u32, alone: bool) -> Part
+    requires uses { IsUses proc.now uses.now }
+    requires there { IsProcessAt proc.now n }
     requires names { AllByRecursion (λ b. b.name < length uses.now.names) part.env }
-    ensures { (l : Listing) → IsUses l uses.now → IsProcessAt l n
-        → result ≡ begins_at l part.env n }
+    requires ends { PrefixEnds proc.now part.node part.env }
+    ensures { result ≡ begins_at proc.now part.env n }
 {
-    let Part { node: _, env, vals } = part;
+    let Part { node, env, vals } = part;
     Part {
         node: n,
-        env: keep(env, uses, n),
+        env: kept(proc, uses, node, env, n, alone),
         vals: emptied(vals),
     }
 }
 
-/// Another part at the prefix n, with the values of the names that are free there.
-pub(crate) fn begins_apart(uses: &Uses, alloc: Global, env: &Env, n: u32) -> Result<Part, NoMemory>
-    requires within { n < length uses.now.ends }
-    requires names { AllByRecursion (λ b. b.name < length uses.now.names) env.now }
-    ensures { IfOk result (λ part. (l : Listing) → IsUses l uses.now → IsProcessAt l n
-        → part ≡ begins_at l env.now n) }
+/// The bindings of names that are free at the prefix n, behind the prefix at p. The first of
+/// several looks at each binding, since the others pass the nodes outside n once more.
+fn kept(proc: &Proc, uses: &Uses, p: u32, env: Env, n: u32, alone: bool) -> Env
+    requires uses { IsUses proc.now uses.now }
+    requires there { IsProcessAt proc.now n }
+    requires names { AllByRecursion (λ b. b.name < length uses.now.names) env }
+    requires ends { PrefixEnds proc.now p env }
+    ensures { result ≡ kept_at proc.now n env }
 {
-    Ok(Part {
-        node: n,
-        env: kept(env, alloc, uses, n)?,
-        vals: Vals::new(alloc),
-    })
+    if alone {
+        keep_on(env, proc, uses, p, n)
+    } else {
+        keep(env, uses, n)
+    }
 }
 
 /// The empty list, in the memory of these values.

@@ -5,6 +5,7 @@ ghost use Rattle.std.specs.List.{AllByRecursion};
 ghost use Rattle.cqp_parts.specs.Parts.{parts_from, bound_to};
 ghost use Rattle.cqp_uses.specs.Users.{IsUses};
 ghost use Rattle.cqp_parts.specs.Parts.{IsProcessAt};
+ghost use Rattle.cqp_onward.specs.Forgetting.{PrefixEnds};
 
 use crate::moved::goes_to;
 use crate::parts::{Parts, Refused};
@@ -28,6 +29,7 @@ pub(crate) fn all_bound_goes(
     requires process { IsProcessAt proc.now n }
     requires env { AllByRecursion (λ b. b.name < length uses.now.names) part.env }
     requires names { AllByRecursion (λ x. x < length uses.now.names) names.now }
+    requires ends { PrefixEnds proc.now part.node (part.env ++ bound_to names.now vals.now) }
     ensures ok { IfOk result (λ parts. parts
         ≡ parts_from proc.now (part.env ++ bound_to names.now vals.now) n) }
     ensures err { IfErr result (λ e. e.part ≡ part) }
@@ -70,6 +72,7 @@ fn goes_back(
     requires uses { IsUses proc.now uses.now }
     requires process { IsProcessAt proc.now n }
     requires names { AllByRecursion (λ b. b.name < length uses.now.names) part.env }
+    requires ends { PrefixEnds proc.now part.node part.env }
     ensures ok { IfOk result (λ parts. parts ≡ parts_from proc.now part.env n) }
     ensures err { IfErr result (λ e. e.part ≡ record part { env = take count part.env }) }
 {

@@ -1,6 +1,6 @@
 //! Bindings of the names that are free at a node.
 
-ghost use Rattle.std.specs.Prelude.{◌≡◌, ◌<◌, ◌+◌, length, slice_set, if◌then◌else◌, IfOk};
+ghost use Rattle.std.specs.Prelude.{◌≡◌, ◌<◌, ◌+◌, length, slice_set, if◌then◌else◌};
 ghost use Rattle.std.specs.List.{AllByRecursion};
 ghost use Rattle.cqp_syntax.specs.Listing.{Listing};
 ghost use Rattle.cqp_parts.specs.Parts.{kept_at, IsProcessAt};
@@ -8,9 +8,7 @@ ghost use Rattle.cqp_uses.specs.Users.{IsUses};
 
 use cqp_lists::List;
 use cqp_parts::{Bind, Env};
-use cqp_syntax::NoMemory;
 use cqp_uses::Uses;
-use std::alloc::Global;
 
 /// The bindings of names that are free at node n, in their memory.
 pub(crate) fn keep(env: Env, uses: &Uses, n: u32) -> Env
@@ -21,16 +19,6 @@ pub(crate) fn keep(env: Env, uses: &Uses, n: u32) -> Env
     let mut items = env.into_vec();
     retain_free(&mut items, uses, n);
     List::from_vec(items)
-}
-
-/// The bindings of names that are free at node n, once more.
-pub(crate) fn kept(env: &Env, alloc: Global, uses: &Uses, n: u32) -> Result<Env, NoMemory>
-    requires within { n < length uses.now.ends }
-    requires names { AllByRecursion (λ b. b.name < length uses.now.names) env.now }
-    ensures { IfOk result (λ some. (l : Listing) → IsUses l uses.now → IsProcessAt l n
-        → some ≡ kept_at l n env.now) }
-{
-    Ok(List::from_vec(kept_of(env.as_slice(), alloc, uses, n)?))
 }
 
 /// Drops the bindings of names that aren't free at node n.
@@ -62,20 +50,4 @@ fn put_if(items: &mut Vec<Bind>, at: usize, bind: Bind, stays: bool) -> usize
     } else {
         at
     }
-}
-
-/// The bindings of names that are free at node n, once more.
-fn kept_of(items: &[Bind], alloc: Global, uses: &Uses, n: u32) -> Result<Vec<Bind>, NoMemory>
-    requires within { n < length uses.now.ends }
-    requires names { AllByRecursion (λ b. b.name < length uses.now.names) items.now }
-    ensures { IfOk result (λ kept. (l : Listing) → IsUses l uses.now → IsProcessAt l n
-        → kept.items ≡ kept_at l n items.now) }
-{
-    let mut kept = Vec::new(alloc);
-    for bind in items {
-        if uses.is_free(bind.name, n) {
-            kept.push(*bind)?;
-        }
-    }
-    Ok(kept)
 }

@@ -4,10 +4,12 @@
 mod ahead;
 mod begin;
 mod binding;
+mod forgetting;
 mod going;
 mod keeping;
 mod moved;
 mod parts;
+mod sharing;
 mod spread;
 
 pub use ahead::Ahead;

@@ -1,15 +1,15 @@
 //! Where a part goes on.
 
-ghost use Rattle.std.specs.Prelude.{◌≡◌, ◌<◌, length, map, IfOk, IfErr};
+ghost use Rattle.std.specs.Prelude.{◌≡◌, ◌<◌, length, IfOk, IfErr};
 ghost use Rattle.std.specs.List.{AllByRecursion};
-ghost use Rattle.cqp_syntax.specs.Listing.{Listing};
-ghost use Rattle.cqp_parts.specs.Parts.{begins_at, parts_from, IsProcessAt};
+ghost use Rattle.cqp_parts.specs.Parts.{parts_from, IsProcessAt};
 ghost use Rattle.cqp_uses.specs.Users.{IsUses};
+ghost use Rattle.cqp_onward.specs.Forgetting.{PrefixEnds};
 ghost use Rattle.cqp_onward.specs.Leads.{LeadsTo};
 
 use crate::ahead::Ahead;
-use crate::begin::begins_apart;
 use crate::parts::{Parts, Refused};
+use crate::sharing::begin_all;
 use crate::spread::prefixes;
 use cqp_parts::{Env, Part};
 use cqp_syntax::{NoMemory, Node, Proc};
@@ -28,11 +28,12 @@ pub(crate) fn goes_to(
     requires uses { IsUses proc.now uses.now }
     requires process { IsProcessAt proc.now n }
     requires names { AllByRecursion (λ b. b.name < length uses.now.names) part.env }
+    requires ends { PrefixEnds proc.now part.node part.env }
     ensures ok { IfOk result (λ parts. parts ≡ parts_from proc.now part.env n) }
     ensures err { IfErr result (λ e. e.part ≡ part) }
 {
     match ahead_at(proc, uses, alloc, &part.env, n) {
-        Ok(ahead) => Ok(ahead.begin(uses, part)),
+        Ok(ahead) => Ok(ahead.begin(proc, uses, part)),
         Err(_) => Err(Refused { part }),
     }
 }
@@ -67,21 +68,9 @@ fn apart(proc: &Proc, uses: &Uses, alloc: Global, env: &Env, n: u32) -> Result<A
     let numbers = prefixes(proc, alloc, n)?;
     match numbers.as_slice() {
         [] => Ok(Ahead::of(None, Vec::new(alloc))),
-        [first, rest @ ..] => Ok(Ahead::of(Some(*first), begin_all(uses, alloc, env, rest)?)),
+        [first, rest @ ..] => Ok(Ahead::of(
+            Some(*first),
+            begin_all(uses, alloc, env.as_slice(), rest)?,
+        )),
     }
-}
-
-/// Parts at these prefixes.
-fn begin_all(uses: &Uses, alloc: Global, env: &Env, numbers: &[u32]) -> Result<Vec<Part>, NoMemory>
-    requires within { AllByRecursion (λ n. n < length uses.now.ends) numbers.now }
-    requires names { AllByRecursion (λ b. b.name < length uses.now.names) env.now }
-    ensures { IfOk result (λ parts. (l : Listing) → IsUses l uses.now
-        → AllByRecursion (IsProcessAt l) numbers.now
-        → parts.items ≡ map (begins_at l env.now) numbers.now) }
-{
-    let mut parts = Vec::new(alloc);
-    for n in numbers {
-        parts.push(begins_apart(uses, alloc, env, *n)?)?;
-    }
-    Ok(parts)
 }

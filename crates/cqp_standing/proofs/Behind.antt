@@ -1,6 +1,6 @@
 -- Parts that begin at the prefixes of a process with all its names bound stand well.
-use Rattle.std.proofs.Common.{◌≡◌, ℕ, true, List, [], ◌∷◌, ◌++◌, map, length, refl, sym, ap, subst, arith, ◌∙◌}
-use Rattle.std.proofs.lemmas.Bool.{and_parts}
+use Rattle.std.proofs.Common.{◌≡◌, ℕ, true, false, Bool, List, [], ◌∷◌, ◌++◌, map, filter, length, refl, sym, ap, subst, arith, ◌∙◌, ⊎_elim}
+use Rattle.std.proofs.lemmas.Bool.{and_parts, cases_Bool}
 use Rattle.std.proofs.lemmas.List.{map-append}
 use Rattle.std.specs.List.{AllByRecursion}
 use Rattle.cqp_syntax.specs.declared.node.Node.{Node}
@@ -22,6 +22,14 @@ use Rattle.cqp_parts.proofs.TreeLemmas.{unfolds_at, node_tree, tree_at, par_side
 all_append : (l : Listing) (ps qs : List Part) → AllByRecursion (Stands l) ps → AllByRecursion (Stands l) qs → AllByRecursion (Stands l) (ps ++ qs)
 all_append l [] qs h k = k
 all_append l (p ∷ ps) qs h k = (h.0, all_append l ps qs h.1 k)
+
+-- bindings that are kept pass the test
+kept_pass : (keep : Bind → Bool) (env : List Bind) → AllByRecursion (λ b. keep b ≡ true) (filter keep env)
+kept_pass keep [] = tt
+kept_pass keep (b ∷ env) = ⊎_elim
+    (λ (t : keep b ≡ true). rw t (t, kept_pass keep env))
+    (λ (t : keep b ≡ false). rw t (kept_pass keep env))
+    (cases_Bool (keep b))
 
 -- a process stands at the number, its names are bound, and they rise behind the bindings'
 pub record Opens (l : Listing) (env : List Bind) (n : ℕ) : Type 0 where
@@ -47,6 +55,7 @@ module _ (l : Listing) (sound : IsProc l) where
           rising = names_rise 0 (length l.ty_of) (kept_at l n env) (binder_names (process_at l n)) kept;
           order = kept;
           bound = scoped_more (names_of env) (names_of (kept_at l n env)) (process_at l n) (kept_names (λ x. is_free x (process_at l n)) env) o.bound;
+          free = kept_pass (λ b. is_free b.name (process_at l n)) env;
           results = omega arith;
         },
         tt,

@@ -4,6 +4,7 @@ pub mod Closing
 pub mod Operands
 pub mod PartRedexes
 pub mod Rises
+pub mod RisingNames
 pub mod ScopeLemmas
 pub mod StandLemmas
 pub mod SuitLemmas

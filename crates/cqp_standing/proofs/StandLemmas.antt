@@ -47,11 +47,11 @@ bound_names (x ∷ xs) [] h = absurd (omega arith)
 bound_names (x ∷ xs) (v ∷ vs) h = ap (λ ys. x ∷ ys) (bound_names xs vs (omega arith))
 
 -- binders of these names
-abbrev binders : (ℕ → TypeTree) → List ℕ → List Binder
+abbrev pub binders : (ℕ → TypeTree) → List ℕ → List Binder
 binders ty xs = map (λ x. record { name = x; ty = ty x }) xs
 
 -- have these names
-binder_names_are : (ty : ℕ → TypeTree) (xs : List ℕ) → map (λ (b : Binder). b.name) (binders ty xs) ≡ xs
+pub binder_names_are : (ty : ℕ → TypeTree) (xs : List ℕ) → map (λ (b : Binder). b.name) (binders ty xs) ≡ xs
 binder_names_are ty [] = refl
 binder_names_are ty (x ∷ xs) = ap (λ ys. x ∷ ys) (binder_names_are ty xs)
 
@@ -165,6 +165,7 @@ module _ (l : Listing) (sound : IsProc l) (part : Part) (w : Stands l part) wher
           rising = w.rising;
           order = w.order;
           bound = w.bound;
+          free = w.free;
           results = omega (arith, length-append part.vals (v ∷ []));
         },
         tt,

@@ -15,6 +15,7 @@ use Rattle.cqp_parts.specs.declared.part.Part.{Part}
 use Rattle.cqp_syntax.specs.Measures.{expr_steps}
 use Rattle.cqp_results.specs.Results.{is_closed, redex_with, count_of}
 use Rattle.cqp_parts.specs.Bound.{expr_bound}
+use Rattle.cqp_parts.specs.Free.{is_free}
 use Rattle.cqp_parts.specs.Parts.{process_of_part}
 
 -- the value of a name
@@ -55,7 +56,8 @@ RiseFrom k n [] = Unit {0}
 RiseFrom k n (x ∷ xs) = IsFrom k n x × RiseFrom (x + 1) n xs
 
 -- names rise, from those of the bindings to those that the process binds (so `names` and `rising`
--- follow); each name that is free there has a value, and no more results are there than redexes
+-- follow); each name that is free there has a value, each name that has a value is free there, and
+-- no more results are there than redexes
 pub record Stands (l : Listing) (part : Part) : Type 0 where
   pub within : part.node < length l.nodes
   pub is : term_at l part.node ≡ process (process_at l part.node)
@@ -65,6 +67,7 @@ pub record Stands (l : Listing) (part : Part) : Type 0 where
   pub order :
       RiseFrom 0 (length l.ty_of) (names_of part.env ++ binder_names (process_at l part.node))
   pub bound : is_scoped (names_of part.env) (process_at l part.node) ≡ true
+  pub free : AllByRecursion (λ b. is_free b.name (process_at l part.node) ≡ true) part.env
   pub results : length part.vals ≤ count_of (exprs_of (process_at l part.node))
 
 -- an operand, behind whose results so many stand

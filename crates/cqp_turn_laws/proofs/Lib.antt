@@ -1,3 +1,4 @@
 pub mod PartLaws
 pub mod RightTurns
+pub mod SomeQubits
 pub mod TurnDeeds

@@ -1,32 +1,11 @@
 -- The value of a name in a list whose names rise.
-use Rattle.std.proofs.Common.{◌≡◌, ◌≢◌, ℕ, zero, suc, true, Bool, List, [], ◌∷◌, ◌≤◌, ◌<◌, nat_lt, length, slice_index_or, Some, None, refl, sym, subst, arith}
+use Rattle.std.proofs.Common.{◌≡◌, ◌≢◌, ℕ, zero, suc, true, List, [], ◌∷◌, ◌≤◌, ◌<◌, nat_lt, length, slice_index_or, Some, None, refl, sym, subst, arith}
 use Rattle.std.proofs.Common.{⊎_elim}
-use Rattle.std.proofs.lemmas.Bool.{and_parts, eq-eqb, ltb-true, lt-ltb, ne_eqb, cases_lt}
+use Rattle.std.proofs.lemmas.Bool.{and_parts, eq-eqb, ltb-true, ne_eqb, cases_lt}
 use Rattle.std.specs.List.{list_all}
 use Rattle.cqp_parts.specs.declared.bind.Bind.{Bind}
 use Rattle.cqp_standing.specs.Stands.{val_of, has_rising_names}
-
--- a test that holds of all holds at each place
-pub all_at : {X : Type 0} (p : X → Bool) (xs : List X) (i : ℕ) (d : X) → list_all p xs ≡ true → i < length xs → p (slice_index_or xs i d) ≡ true
-all_at p [] i d h w = absurd (omega arith)
-all_at p (x ∷ xs) zero d h w = (and_parts (p x) (list_all p xs) h).0
-all_at p (x ∷ xs) (suc i) d h w = all_at p xs i d (and_parts (p x) (list_all p xs) h).1 (omega arith)
-
--- the name at a place
-abbrev pub name_at : List Bind → ℕ → Bind → ℕ
-name_at xs i d = (slice_index_or xs i d).name
-
--- an earlier name is less
-pub rises : (xs : List Bind) (i j : ℕ) (d : Bind) → has_rising_names xs ≡ true → i < j → j < length xs → name_at xs i d < name_at xs j d
-rises [] i j d h a b = absurd (omega arith)
-rises (x ∷ xs) zero zero d h a b = absurd (omega arith)
-rises (x ∷ xs) (suc i) zero d h a b = absurd (omega arith)
-rises (x ∷ xs) zero (suc j) d h a b =
-    let parts = and_parts (list_all (λ c. nat_lt x.name c.name) xs) (has_rising_names xs) h in
-    ltb-true x.name (name_at xs j d) (all_at (λ (c : Bind). nat_lt x.name c.name) xs j d parts.0 (omega arith))
-rises (x ∷ xs) (suc i) (suc j) d h a b =
-    let parts = and_parts (list_all (λ c. nat_lt x.name c.name) xs) (has_rising_names xs) h in
-    rises xs i j d parts.1 (omega arith) (omega arith)
+use Rattle.cqp_standing.proofs.RisingNames.{all_at, name_at, rises}
 
 -- the name at a place
 pub found_at : (xs : List Bind) (i : ℕ) (d : Bind) (x : ℕ) → has_rising_names xs ≡ true → i < length xs → name_at xs i d ≡ x
@@ -56,11 +35,3 @@ parted_nowhere xs d x at rising below above other = found_nowhere xs d x (λ i w
     (λ (u : i ≤ at). let same : i ≡ at = omega arith in absurd (other (omega arith) (subst (λ j. name_at xs j d ≡ x) same e)))
     (cases_lt at i))
     (cases_lt i at))
-
--- names that rise are parted by a test against one
-pub names_parted : (xs : List Bind) (x : ℕ) → has_rising_names xs ≡ true → (i j : ℕ) (d : Bind) → i ≤ j → j < length xs
-    → nat_lt (name_at xs j d) x ≡ true → nat_lt (name_at xs i d) x ≡ true
-names_parted xs x rising i j d low w h = ⊎_elim
-    (λ (t : i < j). lt-ltb (name_at xs i d) x (omega (arith, rises xs i j d rising t w, ltb-true (name_at xs j d) x h)))
-    (λ (t : j ≤ i). let same : j ≡ i = omega arith in subst (λ k. nat_lt (name_at xs k d) x ≡ true) same h)
-    (cases_lt i j)

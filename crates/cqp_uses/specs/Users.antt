@@ -1,6 +1,7 @@
 -- What is told of a process's names beforehand: where its subtrees end, and which nodes use a name.
 use Rattle.std.specs.Prelude.{◌≡◌, ℕ, ◌<◌, ◌≤◌, List, [], ◌∷◌, ◌++◌, map, filter, length, ◌==◌}
-use Rattle.std.specs.Prelude.{slice_index, slice_set, slice_index_or}
+use Rattle.std.specs.Prelude.{slice_index, slice_set, slice_index_or, nat_lt, Option, Some, None}
+use Rattle.std.specs.Prelude.{if◌then◌else◌}
 use Rattle.std.specs.List.{range_with_len, flat_map}
 use Rattle.cqp_syntax.specs.Ends.{end_at}
 use Rattle.cqp_syntax.specs.NodeNames.{uses_in}
@@ -20,6 +21,11 @@ used_in x n ys = map (λ y. n) (filter (λ y. y == x) ys)
 -- the numbers of the nodes below n that use the name
 abbrev pub users_below : Listing → ℕ → ℕ → List ℕ
 users_below l n x = flat_map (λ m. used_in x m (uses_in (node_at l m))) (range_with_len 0 n)
+
+-- the first of these numbers from n on, where they rise
+abbrev pub first_from : ℕ → List ℕ → Option ℕ
+first_from n [] = None
+first_from n (m ∷ ms) = if nat_lt m n then first_from n ms else Some m
 
 -- node n put last among the users of a name
 abbrev pub with_user : ℕ → ℕ → List (List ℕ) → List (List ℕ)

@@ -5,7 +5,8 @@ ghost use Rattle.std.specs.List.{AllByRecursion, range_with_len};
 ghost use Rattle.cqp_syntax.specs.Listing.{Listing, process_at};
 ghost use Rattle.cqp_syntax.specs.NodeNames.{uses_in};
 ghost use Rattle.cqp_parts.specs.Free.{is_free};
-ghost use Rattle.cqp_uses.specs.Users.{IsUses, with_user, with_users};
+ghost use Rattle.cqp_syntax.specs.Ends.{end_at};
+ghost use Rattle.cqp_uses.specs.Users.{IsUses, first_from, users_below, with_user, with_users};
 ghost use Rattle.cqp_parts.specs.Parts.{IsProcessAt};
 
 use crate::end::ends_of;
@@ -48,9 +49,28 @@ impl Uses {
         ensures { (l : Listing) → IsUses l self.now → IsProcessAt l n
             → result ≡ is_free name (process_at l n) }
     {
+        match self.user_from(name, n) {
+            Some(user) => user < self.end(n),
+            None => false,
+        }
+    }
+
+    /// The first node from n on that uses a name.
+    pub fn user_from(&self, name: u32, n: u32) -> Option<u32>
+        requires named { name < length self.now.names }
+        ensures { (l : Listing) → IsUses l self.now
+            → result ≡ first_from n (users_below l (length l.nodes) name) }
+    {
         let users = self.names[name as usize].as_slice();
-        let at = users.partition_point(|user| *user < n);
-        at < users.len() && users[at] < self.ends[n as usize]
+        users.get(users.partition_point(|user| *user < n)).copied()
+    }
+
+    /// The number behind the subtree of node n.
+    pub fn end(&self, n: u32) -> u32
+        requires within { n < length self.now.ends }
+        ensures { (l : Listing) → IsUses l self.now → result ≡ end_at l n }
+    {
+        self.ends[n as usize]
     }
 }
 

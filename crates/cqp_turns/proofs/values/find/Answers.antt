@@ -4,7 +4,8 @@ use Rattle.std.proofs.lemmas.List.Sorted.{IsPartitionPoint-from_clause}
 use Rattle.cqp_syntax.specs.declared.val.Val.TheVariants as val
 use Rattle.cqp_parts.specs.declared.bind.Bind.{Bind}
 use Rattle.cqp_standing.specs.Stands.{val_of}
-use Rattle.cqp_turns.proofs.EnvLemmas.{name_at, found_at, names_parted, parted_nowhere}
+use Rattle.cqp_standing.proofs.RisingNames.{name_at, names_parted}
+use Rattle.cqp_turns.proofs.EnvLemmas.{found_at, parted_nowhere}
 use Rattle.cqp_turns.proofs.values.find.Goals as goal
 use Rattle.cqp_turns.proofs.values.find.Goals.{else-at-items-via-then-at-items+else-items-at, else-at-items-via-else-at-items}
 

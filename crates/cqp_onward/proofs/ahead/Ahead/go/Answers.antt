@@ -11,6 +11,6 @@ pub returns-clause-stand : goal.returns-clause-stand
 returns-clause-stand c to chan s =
     let l = c.args.proc.now in
     let p = c.args.part in
-    let from = c.begin.ensures l c.requires.uses c.requires.leads.first ∙ c.requires.leads.all in
+    let from = c.begin.ensures ∙ c.requires.leads.all in
     let all = from ∙ ap (λ env. parts_from l env (body_of (node_at l p.node))) (unchanged p.env [] refl) in
     subst (AllByRecursion (Stands l)) (sym all) (stands_after l c.requires.uses.process p c.requires.stands (deed.Com to chan) s)

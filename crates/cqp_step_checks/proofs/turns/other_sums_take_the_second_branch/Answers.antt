@@ -1,0 +1,12 @@
+use Rattle.std.proofs.Common.{rules, [], ◌∷◌, ◌++◌}
+use Rattle.cqp_syntax.specs.declared.val.Val.TheVariants as val
+use Rattle.cqp_step_checks.specs.Processes.{received_lists}
+use Rattle.cqp_step_checks.specs.Steps.{no_steps, receipt_steps}
+use Rattle.cqp_step_checks.proofs.Walked.{walked, no_walked}
+use Rattle.cqp_step_checks.proofs.turns.other_sums_take_the_second_branch.Goals as goal
+
+pub gives-requires : goal.gives-requires
+gives-requires g c =
+    walked c.in_ok-told.told received_lists (c.num.result ∷ c.num-2.result ∷ []) (val.Num 3 ∷ val.Num 5 ∷ [])
+    c.in_ok-steps.steps.items (receipt_steps ++ no_steps)
+    (search rules) (search rules) (search rules) no_walked

@@ -1,0 +1,38 @@
+use Rattle.std.proofs.Common.{◌≡◌, ◌++◌, ◌∷◌, [], length, ap, subst, sym, ◌∙◌}
+use Rattle.std.specs.Prelude.{IfOk}
+use Rattle.cqp_engine.specs.Progress.{IsTried}
+use Rattle.cqp_stepper.specs.Kept.{IsKept}
+use Rattle.cqp_stepper.specs.Runs.{Run, progress_of}
+use Rattle.cqp_stepper.proofs.Told.{cut_is, tried_kept, tried_told}
+use Rattle.cqp_stepper.proofs.stepper.StepperEngine.step.Goals as goal
+
+pub invariant_of-self-2 : goal.invariant_of-self-2
+invariant_of-self-2 c =
+    let s = c.self.inside in
+    let e = c.args.entry.now in
+    let r = c.try_entry-tried.result in
+    let es = s.entries.items in
+    let laws = c.reading_laws.ensures in
+    let more : c.push.new.self.items ≡ es ++ e ∷ [] = c.in_ok-push.ensures.items ∙ ap (λ x. es ++ x ∷ []) c.in_ok-copied.ensures in
+    let cut = cut_is es _ c.cut_unless.new.entries.items e r c.is_made.result _ c.is_made.ensures more
+    (ap length c.as_slice-count.ensures.value) c.cut_unless.ensures in
+    subst (λ fs. IsKept s.tables fs c.try_entry-tried.new.self) (sym cut)
+    (tried_kept s.tables laws.here laws.back es s.cells c.try_entry-tried.new.self c.self.invariant e r c.try_entry-tried.ensures.fit
+    c.try_entry-tried.ensures.err)
+
+pub returns-clause-fit : goal.returns-clause-fit
+returns-clause-fit c =
+    let s = c.self.inside in
+    let e = c.args.entry.now in
+    let r = c.try_entry-tried.result in
+    let es = s.entries.items in
+    let laws = c.reading_laws.ensures in
+    let more : c.push.new.self.items ≡ es ++ e ∷ [] = c.in_ok-push.ensures.items ∙ ap (λ x. es ++ x ∷ []) c.in_ok-copied.ensures in
+    let cut = cut_is es _ c.cut_unless.new.entries.items e r c.is_made.result _ c.is_made.ensures more
+    (ap length c.as_slice-count.ensures.value) c.cut_unless.ensures in
+    let after : Run = record { process = s.tables; entries = c.cut_unless.new.entries.items } in
+    subst (λ b. IfOk r (λ fit. IsTried (progress_of b) e fit (progress_of after))) c.self.view_is
+    (subst (λ fs. IfOk r (λ fit. IsTried (progress_of (record { process = s.tables; entries = es })) e fit (progress_of
+    (record { process = s.tables; entries = fs }))))
+    (sym cut)
+    (tried_told s.tables laws.here laws.back es s.cells c.try_entry-tried.new.self c.self.invariant e r c.try_entry-tried.ensures.fit))

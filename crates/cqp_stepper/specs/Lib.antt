@@ -1,0 +1,9 @@
+pub mod Gathering
+pub mod Here
+pub mod Kept
+pub mod Last
+pub mod Own
+pub mod Readings
+pub mod Runs
+pub mod Slots
+pub mod Steps

@@ -1,0 +1,17 @@
+//! A run in one place: it keeps the parts by number, how they stand, and the groups of qubits, and
+//! makes one entry after another.
+#![tactic(auto)]
+
+mod asking;
+mod cells;
+mod gathering;
+mod laws;
+mod meeting;
+mod own;
+mod readings;
+mod slots;
+mod stepper;
+mod tables;
+mod tries;
+
+pub use stepper::Stepper;
