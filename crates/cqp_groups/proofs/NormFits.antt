@@ -19,7 +19,7 @@ use Rattle.cqp_machine.specs.Factors.{Held, new_group}
 use Rattle.cqp_machine.specs.Cells.{Cells}
 use Rattle.cqp_machine.specs.Sums.{exponents, h_in, level_in, levels, norm_in, norms}
 use Rattle.cqp_levels.proofs.KeptFactors.{AreFactors, IsFactor, new_factor}
-use Rattle.cqp_groups.specs.Groups.{NormsFit, as_cells, groups_in}
+use Rattle.cqp_groups.specs.Groups.{IsSmall, NormsFit, as_cells, groups_in}
 use Rattle.cqp_groups.proofs.SumLemmas.{part_below}
 
 -- a norm's part with root 2 is at most its whole part
@@ -59,6 +59,13 @@ fits_within xs bound =
     let e = norm_sum_is_squares xs in
     let g = parts_small xs in
     record { p_fits = omega (arith, ints, e); q_fits = omega (arith, ints, e, g) }
+
+-- and one within 2^h is small
+small_within : (h : ℕ) (xs : List Amp) → (norm_sum xs).p ≤ℤ pos (2 ^ h) → IsSmall h (norm_sum xs)
+small_within h xs bound =
+    let e = norm_sum_is_squares xs in
+    let g = parts_small xs in
+    record { whole = omega (arith, ints, e); whole_small = omega (arith, ints, e); root_small = omega (arith, ints, e, g) }
 
 -- a norm of some numerators, within 2^h
 record Told (r : Root) (h : ℕ) : Type 0 where
@@ -116,3 +123,12 @@ norms_fit slots f few low n h =
     let power : 2 ^ exponents n (as_cells slots) ≤ 2 ^ 126 = pow_mono most in
     let whole = whole_within (norm_sum t.nums) (exponents n (as_cells slots)) t.sound.bound in
     subst RootFits t.is (fits_within t.nums (omega (arith, ints, whole, power)))
+
+-- that of all is within 2 to the sum of the exponents
+pub norms_small : (slots : List (Option Held)) → AreFactors (groups_in slots)
+    → IsSmall (exponents (length slots) (as_cells slots)) (norms (length slots) (as_cells slots))
+norms_small slots f =
+    let n = length slots in
+    let t = below (as_cells slots) f n in
+    let whole = whole_within (norm_sum t.nums) (exponents n (as_cells slots)) t.sound.bound in
+    subst (IsSmall (exponents n (as_cells slots))) t.is (small_within (exponents n (as_cells slots)) t.nums whole)

@@ -34,8 +34,8 @@ use Rattle.cqp_local.proofs.WholeFits.{whole_after}
 use Rattle.cqp_machine.specs.Cells.{as_group}
 use Rattle.cqp_parts.specs.Parts.{opening_parts}
 use Rattle.cqp_fresh.proofs.SoundStores.{no_group_pair}
-use Rattle.cqp_groups.proofs.NormFits.{exponents_within, norms_fit}
-use Rattle.cqp_groups.specs.RunLaws.{AreAfter, DueLaw, ExponentLaw, GateLaw, GrowLaw, MeasureLaw, NextLaw, NormLaw, OpenLaw, PairLaw, SumLaw}
+use Rattle.cqp_groups.proofs.NormFits.{exponents_within, norms_fit, norms_small}
+use Rattle.cqp_groups.specs.RunLaws.{AreAfter, DueLaw, ExponentLaw, GateLaw, GrowLaw, MeasureLaw, NextLaw, NormLaw, SmallLaw, OpenLaw, PairLaw, SumLaw}
 
 module _ (l : Listing) (es : List Event) (slots : List (Option Held)) (x : AreAfter l es slots) where
   -- what stands in the cells stands in the list
@@ -141,6 +141,12 @@ fits l es slots x few =
     let here = well l x.sound es (run_stands l x.sound es x.run) in
     let told = sums l es slots x in
     norms_fit slots (subst AreFactors (sym x.groups) here.factors) few (omega (arith, told.0, told.1))
+
+-- that of all is within 2 to the sum of the exponents
+pub small : SmallLaw
+small l es slots x =
+    let here = well l x.sound es (run_stands l x.sound es x.run) in
+    norms_small slots (subst AreFactors (sym x.groups) here.factors)
 
 -- and the sum of the exponents is at most 96
 pub exponents_few : ExponentLaw

@@ -1,7 +1,8 @@
 -- The groups of a run in one place: a list with a place for each qubit that was made, where the
 -- group stands whose number the place is.
 use Rattle.std.specs.Prelude.{◌≡◌, ◌≢◌, ℕ, ◌<◌, List, [], ◌∷◌, length, true, Option, Some, None}
-use Rattle.std.specs.Prelude.{◌≤◌, Bool, false, slice_index_or}
+use Rattle.std.specs.Prelude.{◌≤◌, ◌≤ℤ◌, ◌^◌, Bool, false, pos, nat_abs, slice_index_or}
+use Rattle.cqp_ring.specs.declared.root.Root.{Root}
 use Rattle.cqp_ring.specs.Root.{RootFits}
 use Rattle.cqp_syntax.specs.Gates.{places_of}
 use Rattle.cqp_syntax.specs.declared.op.Op.{Op}
@@ -109,6 +110,12 @@ holds q (Some g) = has q g.qubits
 -- no group has it
 abbrev pub IsNowhere : List (Option Held) → ℕ → Type 0
 IsNowhere slots q = (n : ℕ) → holds q (groups_in slots n) ≡ false
+
+-- the whole part isn't negative and at most 2^h, and the part with root 2 is no greater
+pub record IsSmall (h : ℕ) (x : Root) : Type 0 where
+  pub whole : pos 0 ≤ℤ x.p
+  pub whole_small : nat_abs x.p ≤ 2 ^ h
+  pub root_small : nat_abs x.q ≤ nat_abs x.p
 
 -- the products of the groups' norms fit
 abbrev pub NormsFit : List (Option Held) → Type 0

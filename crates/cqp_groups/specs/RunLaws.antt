@@ -17,11 +17,11 @@ use Rattle.cqp_machine.specs.Enabled.{FitsStep, IsEnabled, MayJoin, MaySplit}
 use Rattle.cqp_machine.specs.After.{cells_after, split_in}
 use Rattle.cqp_machine.specs.Fronts.{front_after}
 use Rattle.cqp_machine.specs.Machine.{factored, seen_by}
-use Rattle.cqp_machine.specs.Sums.{exponents, levels, weight_of_groups}
+use Rattle.cqp_machine.specs.Sums.{exponents, levels, norms, weight_of_groups}
 use Rattle.cqp_groups.specs.States.{AreState, IsAlone}
 use Rattle.cqp_machine.specs.Shown.{shown, front_of, cells_of}
 use Rattle.cqp_groups.specs.Groups.{CanMeasure, CanPair, CanSplit, CanGate, as_cells, groups_in}
-use Rattle.cqp_groups.specs.Groups.{NormsFit, groups_split}
+use Rattle.cqp_groups.specs.Groups.{IsSmall, NormsFit, groups_split}
 
 -- the groups are those of the cells after a run, with a place for each qubit that was made
 pub record AreAfter (l : Listing) (es : List Event) (slots : List (Option Held)) : Type 0 where
@@ -82,6 +82,12 @@ abbrev pub NormLaw : Type 0
 NormLaw =
     (l : Listing) (es : List Event) (slots : List (Option Held)) → AreAfter l es slots
     → length slots ≤ 12 → NormsFit slots
+
+-- the product of all is within 2 to the sum of the exponents
+abbrev pub SmallLaw : Type 0
+SmallLaw =
+    (l : Listing) (es : List Event) (slots : List (Option Held)) → AreAfter l es slots
+    → IsSmall (exponents (length slots) (as_cells slots)) (norms (length slots) (as_cells slots))
 
 -- at the opening there is no group
 abbrev pub OpenLaw : Type 0

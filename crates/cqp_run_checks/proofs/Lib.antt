@@ -1,3 +1,3 @@
-pub mod LineExamples
+pub mod RunExamples
 pub mod TakenOutcomes
 pub mod TypeExamples

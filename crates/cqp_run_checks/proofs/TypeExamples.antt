@@ -5,7 +5,7 @@ use Rattle.cqp_syntax.specs.Preorder.{process_nodes}
 use Rattle.cqp_syntax.specs.Listing.{Listing, IsListing}
 use Rattle.cqp_types.specs.Examples.{on_both_sides, sent_and_used}
 use Rattle.cqp_run_checks.specs.QubitBinders.{thirteen_qubits}
-use Rattle.cqp_run_checks.proofs.LineExamples.{lists_of}
+use Rattle.cqp_run_checks.proofs.RunExamples.{lists_of}
 
 -- the lists of a qubit on both sides of a parallel composition
 abbrev pub both_sides_lists : Listing

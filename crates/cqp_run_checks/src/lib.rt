@@ -3,9 +3,9 @@
 #![tactic(auto)]
 
 #[cfg(test)]
-mod line;
-#[cfg(test)]
 mod ring;
+#[cfg(test)]
+mod run;
 #[cfg(test)]
 mod types;
 #[cfg(test)]

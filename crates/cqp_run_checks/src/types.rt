@@ -6,7 +6,7 @@ ghost use Rattle.cqp_syntax.specs.Preorder.{process_nodes};
 ghost use Rattle.cqp_types.specs.Examples.{on_both_sides, sent_and_used};
 ghost use Rattle.cqp_run_checks.specs.QubitBinders.{qubits_from, thirteen_qubits};
 
-use crate::line::{gate_process, push_gate};
+use crate::run::{gate_process, push_gate};
 use cqp_syntax::{Names, NoMemory, Node, Nodes, Op, Proc, Ty, Types};
 use cqp_types::{
     Kind, TypeEnd, check, derivation_laws, free_slot_laws, strengthening_laws, value_laws,

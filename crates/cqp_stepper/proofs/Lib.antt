@@ -1,5 +1,6 @@
 mod Channels
 mod Counting
+mod Factored
 mod Gathered
 mod GroupSteps
 mod Last
@@ -13,8 +14,10 @@ mod Opened
 mod OwnDeeds
 mod OwnKept
 mod Rooms
+mod Shared
 mod SlotLemmas
 mod Told
 mod Tried
 mod Turns
 mod Unmade
+mod Weighed

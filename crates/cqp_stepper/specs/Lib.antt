@@ -1,3 +1,4 @@
+pub mod Factors
 pub mod Gathering
 pub mod Here
 pub mod Kept
@@ -7,3 +8,4 @@ pub mod Readings
 pub mod Runs
 pub mod Slots
 pub mod Steps
+pub mod Weighed

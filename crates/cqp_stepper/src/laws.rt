@@ -10,7 +10,8 @@ ghost use Rattle.cqp_turn_laws.specs.Laws.{MovesLaw, SomeQubitsLaw};
 ghost use Rattle.cqp_stepper.specs.Gathering.{AloneLaw, FewLaw};
 ghost use Rattle.cqp_factored.specs.GroupLaws.{GroupLevelLaw, PlacesLaw};
 ghost use Rattle.cqp_groups.specs.RunLaws.{DueLaw, ExponentLaw, GateLaw, GrowLaw, MeasureLaw};
-ghost use Rattle.cqp_groups.specs.RunLaws.{NormLaw, OpenLaw, PairLaw, SumLaw};
+ghost use Rattle.cqp_groups.specs.RunLaws.{HeldLaw, NormLaw, OpenLaw, PairLaw, SmallLaw};
+ghost use Rattle.cqp_groups.specs.RunLaws.{StateLaw, SumLaw};
 
 use cqp_cells::path_laws as cell_laws;
 use cqp_events::settled_laws;
@@ -174,4 +175,15 @@ pub(crate) fn measuring_laws()
     factor_laws();
     odds_laws();
     turn_laws();
+}
+
+/// What the groups of a run tell of its factors and of its weight.
+pub(crate) fn told_factors()
+    ensures state { StateLaw }
+    ensures held { HeldLaw }
+    ensures levels { SumLaw }
+    ensures small { SmallLaw }
+{
+    run_laws();
+    sum_laws();
 }

@@ -4,6 +4,7 @@
 
 mod asking;
 mod cells;
+mod factors;
 mod gathering;
 mod laws;
 mod meeting;
@@ -13,5 +14,6 @@ mod slots;
 mod stepper;
 mod tables;
 mod tries;
+mod weighing;
 
 pub use stepper::Stepper;

@@ -19,8 +19,8 @@ use std::marker::Model;
 /// A run of a checked process as far as it has come.
 #[derive(Drop)]
 pub struct Stepper<'p> {
-    tables: Tables<'p>,
-    cells: Cells,
+    pub(crate) tables: Tables<'p>,
+    pub(crate) cells: Cells,
     entries: Vec<Entry>,
 }
 

@@ -8,7 +8,7 @@ use Rattle.cqp_tool.specs.declared.reply.Reply.TheVariants as reply
 use Rattle.cqp_tool.specs.declared.status.Status.{Status}
 use Rattle.cqp_tool.specs.declared.status.Status.TheVariants.{Done, Usage, TextRefused, TypeRefused}
 use Rattle.cqp_tool.specs.declared.status.Status.TheVariants.{LimitRefused, ReadFault, WriteFault}
-use Rattle.cqp_tool.specs.declared.status.Status.TheVariants.{NoMemory, Unbuilt}
+use Rattle.cqp_tool.specs.declared.status.Status.TheVariants.{NoMemory, Stopped, Unbuilt}
 use Rattle.cqp_tool.specs.declared.task.Task.{Task}
 use Rattle.cqp_tool.specs.declared.task.Task.TheVariants as task
 use Rattle.cqp_tool.specs.Reply.{AnswersText, ServesTask, ServesWords, StopsAt, StopsWords}
@@ -27,9 +27,7 @@ known_text t (Some xs) (Some ys) text r all h =
 pub text_served : (t : Task) (left now : Option (List ℕ)) (text : List ℕ) (r : Reply)
     → TakesAll left now text → length text ≤ 65536 → AnswersText t text r → ServesTask t left now r
 text_served t left now text reply.Refused all short h = absurd h
-text_served task.Check left now text reply.Unbuilt all short h = absurd h
-text_served task.Run left now text reply.Unbuilt all short h =
-    record { fits = tt; answers = known_text task.Run left now text reply.Unbuilt all h; loses = (text, all, short) }
+text_served t left now text reply.Unbuilt all short h = absurd h
 text_served t left now text (reply.TextRefused told) all short h =
     record { fits = tt; answers = known_text t left now text (reply.TextRefused told) all h; loses = (text, all, short) }
 text_served t left now text (reply.TypeRefused told) all short h =
@@ -45,13 +43,18 @@ text_served t left now text (reply.Accepted told) all short h =
     record { fits = tt; answers = known_text t left now text (reply.Accepted told) all h; loses = (text, all, short) }
 text_served t left now text (reply.Trace bytes) all short h =
     record { fits = tt; answers = known_text t left now text (reply.Trace bytes) all h; loses = (text, all, short) }
+text_served task.Check left now text (reply.Stopped bytes) all short h = let never = h.written.0 in cc
+text_served (task.Run choice) left now text (reply.Stopped bytes) all short h = record {
+  fits = tt;
+  answers = known_text (task.Run choice) left now text (reply.Stopped bytes) all h;
+  loses = (text, all, short);
+}
 
 -- a reply that serves the task that words ask for serves the words
 pub words_served : (words : List (List ℕ)) (t : Task) (left now : Option (List ℕ)) (r : Reply)
     → AskTask words t → ServesTask t left now r → ServesWords words left now r
 words_served words t left now reply.Refused ask s = absurd s.fits
-words_served words task.Check left now reply.Unbuilt ask s = absurd s.fits
-words_served words task.Run left now reply.Unbuilt ask s = inr (ask, s)
+words_served words t left now reply.Unbuilt ask s = absurd s.fits
 words_served words t left now (reply.TextRefused told) ask s = (t, ask, s)
 words_served words t left now (reply.TypeRefused told) ask s = (t, ask, s)
 words_served words t left now reply.TooLong ask s = (t, ask, s)
@@ -60,6 +63,8 @@ words_served words t left now reply.TooLarge ask s = (t, ask, s)
 words_served words t left now (reply.TooManyQubits told) ask s = (t, ask, s)
 words_served words t left now (reply.Accepted told) ask s = (t, ask, s)
 words_served words t left now (reply.Trace text) ask s = (t, ask, s)
+words_served words task.Check left now (reply.Stopped text) ask s = absurd s.fits
+words_served words (task.Run choice) left now (reply.Stopped text) ask s = (choice, ask, s)
 
 -- where a reading stops, the call stops
 pub words_stopped : (words : List (List ℕ)) (t : Task) (left now : Option (List ℕ)) (s : Status)
@@ -72,6 +77,7 @@ words_stopped words t left now LimitRefused ask h = h
 words_stopped words t left now ReadFault ask h = ((t, ask), h)
 words_stopped words t left now WriteFault ask h = h
 words_stopped words t left now NoMemory ask h = h
+words_stopped words t left now Stopped ask h = h
 words_stopped words t left now Unbuilt ask h = h
 
 -- a source of which nothing was taken has lost nothing

@@ -12,10 +12,14 @@ use Rattle.cqp_expand.specs.Outcomes.{IsLarge}
 use Rattle.cqp_types.specs.declared.kind.Kind.{Kind}
 use Rattle.cqp_types.specs.Derivations.{IsDerivable}
 use Rattle.cqp_types.specs.Faults.{IsLeastFault}
+use Rattle.cqp_trace.specs.declared.end.End.{End}
 use Rattle.cqp_trace.specs.declared.end.End.TheVariants as end
 use Rattle.cqp_trace.specs.declared.trace.Trace.{Trace}
 use Rattle.cqp_trace.specs.Text.{trace_text, line}
-use Rattle.cqp_cells.specs.Lawful.{IsLawful}
+use Rattle.cqp_paths.specs.Follows.{Pick}
+use Rattle.cqp_paths.specs.Runs.{IsPlainRun}
+use Rattle.cqp_tool.specs.declared.status.Status.{Status}
+use Rattle.cqp_tool.specs.declared.status.Status.TheVariants.{Done, Stopped}
 use Rattle.cqp_tool.specs.Lines.{line_at, refusal_line, depth_line, scope_text, fault_text}
 use Rattle.cqp_tool.specs.Lines.{need_line, accepted_line}
 
@@ -59,9 +63,15 @@ pub record TellsNeed (l : Listing) (bytes : List ℕ) : Type 0 where
 abbrev pub TellsVerdict : Process → List ℕ → Type 0
 TellsVerdict p bytes = bytes ≡ accepted_line (need p) (size p)
 
--- the bytes are the text of a lawful trace of the process, which ends with no part left
-pub record PrintsTrace (p : Process) (bytes : List ℕ) : Type 0 where
+-- the status of a run that ends so
+abbrev pub status_of_end : End → Status
+status_of_end (end.Done left) = Done
+status_of_end (end.Stopped part) = Stopped
+
+-- the bytes are the text of the trace of a run of the process in plain order, by a pick, whose end
+-- has the status
+pub record PrintsTrace (pick : Pick) (p : Process) (status : Status) (bytes : List ℕ) : Type 0 where
   pub trace : Trace
-  pub lawful : IsLawful p trace
-  pub done : trace.end ≡ end.Done 0
+  pub run : IsPlainRun pick p trace
+  pub ended : status ≡ status_of_end trace.end
   pub printed : bytes ≡ trace_text trace

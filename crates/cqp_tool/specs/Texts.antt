@@ -1,11 +1,10 @@
 -- What a text stands for, and which texts are accepted.
 use Rattle.std.specs.Prelude.{ℕ, ◌≤◌, List, length}
-use Rattle.cqp_syntax.specs.Listing.{Listing, root}
+use Rattle.cqp_syntax.specs.Listing.{Listing}
 use Rattle.cqp_grammar.specs.Trees.{ProgramTree}
 use Rattle.cqp_grammar.specs.Prefixes as grammar
 use Rattle.cqp_expand.specs.Outcomes.{IsExpanded}
 use Rattle.cqp_types.specs.Checked.{IsChecked}
-use Rattle.cqp_line.specs.Line.{IsLine}
 
 -- the text is within its limit and stands for the program
 pub record IsProgramText (text : List ℕ) (t : ProgramTree) : Type 0 where
@@ -23,9 +22,3 @@ pub record StandsFor (text : List ℕ) (l : Listing) : Type 0 where
 pub record IsAccepted (text : List ℕ) (l : Listing) : Type 0 where
   pub stands : StandsFor text l
   pub checked : IsChecked l
-
--- the text is accepted, and its process is no straight line
-pub record IsUnbuilt (text : List ℕ) : Type 0 where
-  pub process : Listing
-  pub accepted : IsAccepted text process
-  pub other : IsLine (root process) → ⊥

@@ -7,19 +7,20 @@ use crate::NoMemory;
 use crate::lines::accepted_line;
 use crate::reply::Reply;
 use crate::task::Task;
-use cqp_line::{is_line, line_run};
+use cqp_plain::chosen_run;
 use cqp_syntax::Proc;
-use cqp_trace::trace_text;
+use cqp_trace::{End, trace_text};
 use cqp_types::Typed;
+use cqp_words::Choice;
 use std::alloc::Global;
 
 /// Does the task on a process that is accepted.
-pub(crate) fn done(alloc: Global, task: Task, typed: &Typed) -> Result<Reply, NoMemory>
-    ensures { IfOk result (AnswersTask task typed.now) }
+pub(crate) fn done(alloc: Global, task: &Task, typed: &Typed) -> Result<Reply, NoMemory>
+    ensures { IfOk result (AnswersTask task.now typed.now) }
 {
     match task {
         Task::Check => told(alloc, typed.proc()),
-        Task::Run => run(alloc, typed.proc()),
+        Task::Run { choice } => run(alloc, typed, choice),
     }
 }
 
@@ -31,14 +32,14 @@ fn told(alloc: Global, proc: &Proc) -> Result<Reply, NoMemory>
     Ok(Reply::Accepted { line })
 }
 
-/// The trace of a process, where it is a straight line.
-fn run(alloc: Global, proc: &Proc) -> Result<Reply, NoMemory>
-    ensures { IfOk result (AnswersTask Task.Run proc.now) }
+/// The trace of a process.
+fn run(alloc: Global, typed: &Typed, choice: &Choice) -> Result<Reply, NoMemory>
+    ensures { IfOk result (AnswersTask (Task.Run choice.now) typed.now) }
 {
-    if !is_line(proc) {
-        return Ok(Reply::Unbuilt);
-    }
-    let run = line_run(alloc, proc)?;
+    let run = chosen_run(alloc, typed, choice)?;
     let text = trace_text(alloc, &run.trace)?;
-    Ok(Reply::Trace { text })
+    match run.trace.end {
+        End::Done { left: _ } => Ok(Reply::Trace { text }),
+        End::Stopped { part: _ } => Ok(Reply::Stopped { text }),
+    }
 }

@@ -1,6 +1,7 @@
 //! Whole calls over sources and sinks in memory: words, faults and statuses.
 
 mod checks;
+mod runs;
 mod texts;
 
 use cqp_outside::{Bytes, MemSink, MemSource, Numbers};
@@ -95,16 +96,15 @@ fn other_words_are_refused_and_read_nothing(rt: HostRuntime) -> Result<(), Fail>
 
 #[test]
 fn what_is_not_served_yet_reads_nothing(rt: HostRuntime) -> Result<(), Fail> {
-    let cases: [&[&str]; 9] = [
+    let cases: [&[&str]; 8] = [
         &["replay"],
         &["upgrade"],
         &["bundle"],
         &["state"],
         &["gen", "1"],
         &["watch", "--rules", "gate"],
-        &["run", "--seed", "1"],
-        &["run", "--born", "1"],
         &["run", "--workers", "1"],
+        &["run", "--workers", "16", "--seed", "1"],
     ];
     for words in cases {
         unread(&rt, rt.alloc(), words, Status::Unbuilt, "not built\n")?;
@@ -146,6 +146,7 @@ fn statuses_have_their_numbers(rt: HostRuntime) {
         (Status::ReadFault, 5),
         (Status::WriteFault, 6),
         (Status::NoMemory, 7),
+        (Status::Stopped, 8),
         (Status::Unbuilt, 10),
     ];
     for (status, number) in cases {

@@ -1,5 +1,4 @@
-//! Whole calls of `run` on texts: straight lines, refusals by the grammar, limits, and programs
-//! that are not run yet.
+//! Whole calls of `run` on texts: straight lines, refusals by the grammar, and limits.
 
 use crate::tool::{repeated, serve, tells};
 use cqp_tool::Status;
@@ -130,45 +129,15 @@ fn limits_tell_what_is_passed(rt: HostRuntime) -> Result<(), Fail> {
 }
 
 #[test]
-fn other_accepted_programs_are_not_built(rt: HostRuntime) -> Result<(), Fail> {
-    let cases = [
-        "0|0",
-        "(new c:^[Int])0",
-        "(new c:^[Int])c?[x:Int].0",
-        "(new c:^[Int])c![1].0",
-        "if 1 = 1 then 0 else 0",
-        "{1}.0",
-        "{unit}.0",
-        "{H}.0",
-        "(qbit x){x}.0",
-        "(qbit x){measure x}.0",
-        "(qbit x){x *= sig(1)}.0",
-        "(qbit x){x *= Y}.0",
-        "(qbit x)(qbit y){x,y *= CNot}.0",
-        "(qbit x){x *= H}.(0|0)",
-    ];
-    for text in cases {
-        let bytes = text.as_bytes();
-        tells(
-            &rt,
-            rt.alloc(),
-            "run",
-            bytes,
-            Status::Unbuilt,
-            "not built\n",
-        )?;
-    }
-    Ok(())
-}
-
-#[test]
 fn straight_lines_have_limits(rt: HostRuntime) -> Result<(), Fail> {
     let alloc = rt.alloc();
     let cases = [
         ("", "(qbit a)", 12, Status::Done),
         ("", "(qbit a)", 13, Status::LimitRefused),
         ("(qbit x)", "{x *= H}.", 90, Status::Done),
-        ("(qbit x)", "{x *= H}.", 91, Status::Unbuilt),
+        ("(qbit x)", "{x *= H}.", 91, Status::Done),
+        ("(qbit x)", "{x *= H}.{x *= T}.", 178, Status::Done),
+        ("(qbit x)", "{x *= H}.{x *= T}.", 179, Status::Stopped),
         ("(qbit x)", "{x *= X}.", 4999, Status::Done),
         ("(qbit x)", "{x *= X}.", 5000, Status::LimitRefused),
     ];

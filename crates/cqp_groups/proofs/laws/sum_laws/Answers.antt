@@ -1,4 +1,4 @@
-use Rattle.cqp_groups.proofs.RunGroups.{exponents_few, fits, sums}
+use Rattle.cqp_groups.proofs.RunGroups.{exponents_few, fits, small, sums}
 use Rattle.cqp_groups.proofs.laws.sum_laws.Goals as goal
 
 pub returns-clause-levels : goal.returns-clause-levels
@@ -9,3 +9,6 @@ returns-clause-exponents c = exponents_few
 
 pub returns-clause-norms : goal.returns-clause-norms
 returns-clause-norms c = fits
+
+pub returns-clause-small : goal.returns-clause-small
+returns-clause-small c = small

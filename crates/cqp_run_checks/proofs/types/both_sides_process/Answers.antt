@@ -1,6 +1,6 @@
 use Rattle.std.proofs.Common.{rules}
 use Rattle.cqp_types.specs.Examples.{on_both_sides}
-use Rattle.cqp_run_checks.proofs.LineExamples.{same_listing}
+use Rattle.cqp_run_checks.proofs.RunExamples.{same_listing}
 use Rattle.cqp_run_checks.proofs.TypeExamples.{both_sides_lists, both_sides_listed}
 use Rattle.cqp_run_checks.proofs.types.both_sides_process.Goals as goal
 

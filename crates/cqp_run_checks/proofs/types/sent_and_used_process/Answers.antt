@@ -1,6 +1,6 @@
 use Rattle.std.proofs.Common.{rules}
 use Rattle.cqp_types.specs.Examples.{sent_and_used}
-use Rattle.cqp_run_checks.proofs.LineExamples.{same_listing}
+use Rattle.cqp_run_checks.proofs.RunExamples.{same_listing}
 use Rattle.cqp_run_checks.proofs.TypeExamples.{sent_and_used_lists, sent_and_used_listed}
 use Rattle.cqp_run_checks.proofs.types.sent_and_used_process.Goals as goal
 

@@ -1,6 +1,6 @@
 use Rattle.std.proofs.Common.{rules}
 use Rattle.cqp_run_checks.specs.QubitBinders.{thirteen_qubits}
-use Rattle.cqp_run_checks.proofs.LineExamples.{same_listing}
+use Rattle.cqp_run_checks.proofs.RunExamples.{same_listing}
 use Rattle.cqp_run_checks.proofs.TypeExamples.{thirteen_lists, thirteen_listed}
 use Rattle.cqp_run_checks.proofs.types.thirteen_process.Goals as goal
 

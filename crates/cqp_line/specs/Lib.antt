@@ -1,4 +1,0 @@
-pub mod Line
-pub mod Progress
-pub mod Shapes
-pub mod Strokes
