@@ -1,2 +1,3 @@
 mod Picked
 mod Runs
+pub mod Sizes

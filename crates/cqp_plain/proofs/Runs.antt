@@ -1,4 +1,5 @@
--- The trace of a run has a text, and its factors are those of the state that its entries lead to.
+-- A lawful trace has a text, and the factors at its end are those of the state that its entries
+-- lead to.
 use Rattle.std.proofs.Common.{◌≡◌, List, true, subst}
 use Rattle.std.specs.List.{list_all}
 use Rattle.cqp_syntax.specs.Trees.{Process}
@@ -7,22 +8,19 @@ use Rattle.cqp_trace.specs.declared.trace.Trace.{Trace}
 use Rattle.cqp_trace.specs.Writable.{IsWritable, is_writable_end}
 use Rattle.cqp_vector.specs.Group.{Group}
 use Rattle.cqp_cells.specs.InRange.{is_in_range}
-use Rattle.cqp_paths.specs.Follows.{Pick}
-use Rattle.cqp_paths.specs.Runs.{IsPlainRun}
+use Rattle.cqp_cells.specs.Lawful.{IsLawful}
 use Rattle.cqp_stepper.specs.Factors.{AreFactorsAfter}
 use Rattle.cqp_stepper.specs.Weighed.{HasWritableWeight}
 use Rattle.cqp_plain.specs.Written.{HasLines}
 
--- a plain run whose numbers are in range, and whose weight has a text, has a text
-pub run_written : (pick : Pick) (p : Process) (t : Trace) → IsPlainRun pick p t → HasLines p → list_all is_in_range t.entries ≡ true
+-- a lawful trace whose numbers are in range, and whose weight has a text, has a text
+pub lawful_written : (p : Process) (t : Trace) → IsLawful p t → HasLines p → list_all is_in_range t.entries ≡ true
     → is_writable_end t.end ≡ true → HasWritableWeight p t.entries → IsWritable t
-run_written pick p t run lines numbers end weighed =
-    let lawful = run.run.lawful in
-    record {
-      entries = lines t.entries lawful.last lawful.path.leads numbers;
-      end = end;
-      weight = weighed t.weight lawful.least lawful.weight;
-    }
+lawful_written p t lawful lines numbers end weighed = record {
+  entries = lines t.entries lawful.last lawful.path.leads numbers;
+  end = end;
+  weight = weighed t.weight lawful.least lawful.weight;
+}
 
 -- what was told of one process and its entries holds of those that equal them
 pub weighed_same : (p q : Process) (es fs : List Entry) → p ≡ q → es ≡ fs → HasWritableWeight p es → HasWritableWeight q fs

@@ -1,5 +1,6 @@
--- What the lines of refusals and of verdicts tell of a text, a program or a process.
-use Rattle.std.specs.Prelude.{◌≡◌, ◌⊎◌, ℕ, ◌<◌, List, codes, length, slice_index}
+-- What the lines of refusals and of verdicts tell of a text, a program or a process, and what is
+-- printed of a run.
+use Rattle.std.specs.Prelude.{◌≡◌, ℕ, ◌<◌, List, codes, slice_index}
 use Rattle.cqp_syntax.specs.Listing.{Listing, root}
 use Rattle.cqp_syntax.specs.Measures.{need, size}
 use Rattle.cqp_syntax.specs.Trees.{Process}
@@ -15,7 +16,8 @@ use Rattle.cqp_types.specs.Faults.{IsLeastFault}
 use Rattle.cqp_trace.specs.declared.end.End.{End}
 use Rattle.cqp_trace.specs.declared.end.End.TheVariants as end
 use Rattle.cqp_trace.specs.declared.trace.Trace.{Trace}
-use Rattle.cqp_trace.specs.Text.{trace_text, line}
+use Rattle.cqp_trace.specs.Text.{line}
+use Rattle.cqp_trace.specs.Writable.{IsWritable}
 use Rattle.cqp_paths.specs.Follows.{Pick}
 use Rattle.cqp_paths.specs.Runs.{IsPlainRun}
 use Rattle.cqp_tool.specs.declared.status.Status.{Status}
@@ -68,10 +70,12 @@ abbrev pub status_of_end : End → Status
 status_of_end (end.Done left) = Done
 status_of_end (end.Stopped part) = Stopped
 
--- the bytes are the text of the trace of a run of the process in plain order, by a pick, whose end
--- has the status
-pub record PrintsTrace (pick : Pick) (p : Process) (status : Status) (bytes : List ℕ) : Type 0 where
+-- The bytes are the text that is given of the trace of a run of the process in plain order, by a
+-- pick, whose end has the status. The trace has a text.
+pub record TellsRun (given : Trace → List ℕ) (pick : Pick) (p : Process) (status : Status)
+    (bytes : List ℕ) : Type 0 where
   pub trace : Trace
   pub run : IsPlainRun pick p trace
+  pub writable : IsWritable trace
   pub ended : status ≡ status_of_end trace.end
-  pub printed : bytes ≡ trace_text trace
+  pub told : bytes ≡ given trace

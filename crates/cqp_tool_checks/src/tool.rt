@@ -1,6 +1,7 @@
 //! Whole calls over sources and sinks in memory: words, faults and statuses.
 
 mod checks;
+mod replays;
 mod runs;
 mod texts;
 
@@ -78,9 +79,11 @@ fn unread(
 
 #[test]
 fn other_words_are_refused_and_read_nothing(rt: HostRuntime) -> Result<(), Fail> {
-    let cases: [&[&str]; 8] = [
+    let cases: [&[&str]; 10] = [
         &[],
         &["check", "check"],
+        &["replay", "0"],
+        &["gen", "101"],
         &["run", "run"],
         &["Run"],
         &["run "],
@@ -96,12 +99,10 @@ fn other_words_are_refused_and_read_nothing(rt: HostRuntime) -> Result<(), Fail>
 
 #[test]
 fn what_is_not_served_yet_reads_nothing(rt: HostRuntime) -> Result<(), Fail> {
-    let cases: [&[&str]; 8] = [
-        &["replay"],
-        &["upgrade"],
+    let cases: [&[&str]; 6] = [
         &["bundle"],
         &["state"],
-        &["gen", "1"],
+        &["gen", "1", "--workers", "2"],
         &["watch", "--rules", "gate"],
         &["run", "--workers", "1"],
         &["run", "--workers", "16", "--seed", "1"],
@@ -147,6 +148,7 @@ fn statuses_have_their_numbers(rt: HostRuntime) {
         (Status::WriteFault, 6),
         (Status::NoMemory, 7),
         (Status::Stopped, 8),
+        (Status::TraceRefused, 9),
         (Status::Unbuilt, 10),
     ];
     for (status, number) in cases {

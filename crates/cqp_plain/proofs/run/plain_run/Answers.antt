@@ -4,7 +4,7 @@ use Rattle.cqp_syntax.specs.Listing.{root}
 use Rattle.cqp_cells.specs.InRange.{is_in_range}
 use Rattle.cqp_paths.specs.Runs.{IsPlainRun}
 use Rattle.cqp_engine.specs.PlainRuns.{answers_of}
-use Rattle.cqp_plain.proofs.Runs.{run_written, weighed_same}
+use Rattle.cqp_plain.proofs.Runs.{lawful_written, weighed_same}
 use Rattle.cqp_plain.proofs.run.plain_run.Given as given
 use Rattle.cqp_plain.proofs.run.plain_run.Goals as goal
 
@@ -19,6 +19,6 @@ returns-clause-writable g c =
     let p = root c.args.typed.now in
     let opens = ap (λ r. root r.process) c.in_ok-stepper.ensures in
     let made = c.in_ok-trace.ensures.made in
-    run_written (answers_of (given.F-post g c.args.chooser.now)) p t (returns-clause-run g c) c.process_laws.ensures.lines
+    lawful_written p t (returns-clause-run g c).run.lawful c.process_laws.ensures.lines
     (subst (λ es. list_all is_in_range es ≡ true) c.as_slice.ensures c.entries_in_range.ensures) c.end_in_range.ensures
     (weighed_same _ p _ t.entries (made.opening ∙ opens) made.entries c.weighed.ensures)
