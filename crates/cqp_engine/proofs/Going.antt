@@ -19,8 +19,8 @@ use Rattle.cqp_paths.specs.Runs.{IsPlainRun}
 use Rattle.cqp_paths.proofs.Following.{follows_on, plain_on}
 use Rattle.cqp_paths.proofs.Runs.{run_of}
 use Rattle.cqp_engine.specs.declared.engine.Fit.TheVariants.{Made}
-use Rattle.cqp_engine.specs.PlainRuns.{IsAdvanced, IsChosen, IsPlainEnd, IsPlainSoFar, IsRunning}
-use Rattle.cqp_engine.specs.Progress.{Progress, HasMade, HasPath, IsSound, IsTried, fresh, longer}
+use Rattle.cqp_engine.specs.PlainRuns.{IsAdvanced, IsChosen, IsPlainEnd, IsPlainSoFar}
+use Rattle.cqp_engine.specs.Progress.{Progress, HasPath, IsSound, IsTried, fresh, longer}
 
 -- what is asked: entries and the size of what is left are within the size of their process
 abbrev pub EntriesAreWithin : Type 0
@@ -31,12 +31,8 @@ pub path_short : EntriesAreWithin → (s : Progress) → HasPath s → length s.
 path_short within s path = let all = within s.opening s.entries s.last path.leads in omega (arith, all)
 
 -- a run begins with no entry
-pub running_starts : (pick : Pick) (s : Progress) (es : List Entry) → s ≡ fresh s.opening → es ≡ [] → IsRunning pick s.opening s es
-running_starts pick s es is none = record {
-  far = subst (IsPlainSoFar pick) (sym is) (record { path = path_starts s.opening; plain = tt; follows = tt });
-  opening = refl;
-  entries = none ∙ sym (ap (λ (u : Progress). u.entries) is);
-}
+pub running_starts : (pick : Pick) (s : Progress) → s ≡ fresh s.opening → IsPlainSoFar pick s
+running_starts pick s is = subst (IsPlainSoFar pick) (sym is) (record { path = path_starts s.opening; plain = tt; follows = tt })
 
 -- a run goes on by an entry that is chosen and made
 one_more : (pick : Pick) (s : Progress) (i : ℕ) (e : Entry) (d : Config) → IsPlainSoFar pick s
@@ -56,33 +52,22 @@ one_longer : (es : List Entry) (e : Entry) → length (es ++ e ∷ []) ≡ suc (
 one_longer [] e = refl
 one_longer (x ∷ es) e = ap suc (one_longer es e)
 
--- an entry that was made and put last
-pub advanced : (pick : Pick) (s t : Progress) (i : ℕ) (e : Entry) (old now : List Entry) → IsPlainSoFar pick s
-    → IsChosen pick (measure_total s.entries) s.last i e → IsTried s e Made t → old ≡ s.entries → now ≡ old ++ e ∷ [] → IsAdvanced pick s None t now
-advanced pick s t i e old now far chosen tried same put =
-    let is : now ≡ s.entries ++ e ∷ [] = put ∙ ap (λ es. es ++ e ∷ []) same in (
-      record {
-        far = subst (IsPlainSoFar pick) (sym tried.1) (one_more pick s i e t.last far chosen tried.0);
-        opening = ap (λ (u : Progress). u.opening) tried.1;
-        entries = is ∙ sym (ap (λ (u : Progress). u.entries) tried.1);
-      },
-      ap length is ∙ one_longer s.entries e,
-    )
-
--- a run that advanced goes on
-pub still_running : (pick : Pick) (p : Process) (s t : Progress) (now : List Entry) → s.opening ≡ p → IsAdvanced pick s None t now
-    → IsRunning pick p t now
-still_running pick p s t now opening on = record { far = on.0.far; opening = on.0.opening ∙ opening; entries = on.0.entries }
+-- an entry that was made
+pub advanced : (pick : Pick) (s t : Progress) (i : ℕ) (e : Entry) → IsPlainSoFar pick s → IsChosen pick (measure_total s.entries) s.last i e
+    → IsTried s e Made t → IsAdvanced pick s None t
+advanced pick s t i e far chosen tried = (
+  subst (IsPlainSoFar pick) (sym tried.1) (one_more pick s i e t.last far chosen tried.0),
+  ap (λ (u : Progress). u.opening) tried.1,
+  ap (λ (u : Progress). length u.entries) tried.1 ∙ one_longer s.entries e,
+)
 
 -- with each entry less is left of the size
-pub run_smaller : EntriesAreWithin → (pick : Pick) (p : Process) (s t : Progress) (old now : List Entry) → s.opening ≡ p → old ≡ s.entries
-    → IsAdvanced pick s None t now → size p - length now < size p - length old
-run_smaller within pick p s t old now opening same on =
-    let short : length t.entries ≤ size t.opening = path_short within t on.0.far.path in
-    let sizes : size t.opening ≡ size p = ap size (on.0.opening ∙ opening) in
-    let before : length old ≡ length s.entries = ap length same in
-    let behind : length now ≡ length t.entries = ap length on.0.entries in
-    omega (arith, short, sizes, before, behind, on.1)
+pub run_smaller : EntriesAreWithin → (pick : Pick) (p : Process) (s t : Progress) → s.opening ≡ p → IsAdvanced pick s None t
+    → size p - length t.entries < size p - length s.entries
+run_smaller within pick p s t opening on =
+    let short : length t.entries ≤ size t.opening = path_short within t on.0.path in
+    let sizes : size t.opening ≡ size p = ap size (on.1 ∙ opening) in
+    omega (arith, short, sizes, on.2)
 
 -- a run that may end so is a plain run
 ended : (pick : Pick) (s : Progress) (end : End) (w : Weight) → IsSound s.opening → IsPlainSoFar pick s → IsPlainEnd s end → IsLeast w
@@ -96,20 +81,12 @@ ended pick s end w sound far is least probable = record {
     lawful = record { last = s.last; path = far.path; end = is.right; least = least; weight = probable }
 
 -- the same, in the words of the loop
-pub run_ended : (pick : Pick) (p : Process) (s t : Progress) (end : End) (es : List Entry) (w : Weight) → IsSound p → IsPlainSoFar pick s
-    → s.opening ≡ p → IsAdvanced pick s (Some end) t es → IsLeast w → IsProbability t.opening t.entries w
-    → IsPlainRun pick p (record { entries = es; end = end; weight = w })
-run_ended pick p s t end es w sound far opening on least probable =
+pub run_ended : (pick : Pick) (p : Process) (s t : Progress) (end : End) (w : Weight) → IsSound p → IsPlainSoFar pick s
+    → s.opening ≡ p → IsAdvanced pick s (Some end) t → IsLeast w → IsProbability t.opening t.entries w
+    → IsPlainRun pick p (record { entries = t.entries; end = end; weight = w })
+run_ended pick p s t end w sound far opening on least probable =
     let here : IsProbability s.opening s.entries w = subst (λ (u : Progress). IsProbability u.opening u.entries w) on.0 probable in
     let sound_here : IsSound s.opening = subst IsSound (sym opening) sound in
-    subst (λ q. IsPlainRun pick q (record { entries = es; end = end; weight = w })) opening
-    (subst (λ xs. IsPlainRun pick s.opening (record { entries = xs; end = end; weight = w })) (sym on.1) (ended pick s end w sound_here far on.2 least here))
-
--- and the entries of the trace were made
-pub run_made : (pick : Pick) (p : Process) (s t : Progress) (end : End) (es : List Entry) → IsPlainSoFar pick s → s.opening ≡ p
-    → IsAdvanced pick s (Some end) t es → HasMade p es t
-run_made pick p s t end es far opening on = record {
-  path = subst HasPath (sym on.0) far.path;
-  opening = ap (λ (u : Progress). u.opening) on.0 ∙ opening;
-  entries = ap (λ (u : Progress). u.entries) on.0 ∙ sym on.1;
-}
+    subst (λ q. IsPlainRun pick q (record { entries = t.entries; end = end; weight = w })) opening
+    (subst (λ (u : Progress). IsPlainRun pick s.opening (record { entries = u.entries; end = end; weight = w })) (sym on.0)
+    (ended pick s end w sound_here far on.1 least here))

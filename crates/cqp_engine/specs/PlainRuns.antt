@@ -2,13 +2,14 @@
 use Rattle.std.specs.Prelude.{◌≡◌, ℕ, suc, List, length, None, Some, Option}
 use Rattle.std.specs.Borrow.{Bor}
 use Rattle.cqp_ring.specs.declared.root.Root.{Root}
-use Rattle.cqp_syntax.specs.Trees.{Process}
 use Rattle.cqp_trace.specs.declared.end.End.{End}
 use Rattle.cqp_trace.specs.declared.entry.Entry.{Entry}
+use Rattle.cqp_trace.specs.declared.trace.Trace.{Trace}
 use Rattle.cqp_cells.specs.Config.{Config, start_of}
 use Rattle.cqp_cells.specs.Lawful.{IsRightEnd, exponent_after}
 use Rattle.cqp_cells.specs.Order.{IsPlainFrom, IsPlainNext, StopsPlainly, least_part}
 use Rattle.cqp_paths.specs.Follows.{Pick, IsPickedIn, Follows}
+use Rattle.cqp_engine.specs.declared.plain.Ended.{Ended}
 use Rattle.cqp_engine.specs.Progress.{Progress, HasPath}
 
 -- the pick of a function that is asked with a slice of odds
@@ -28,19 +29,17 @@ pub record IsPlainSoFar (pick : Pick) (s : Progress) : Type 0 where
   pub plain : IsPlainFrom (start_of s.opening) s.entries
   pub follows : Follows pick s.opening s.entries
 
--- so they are, of this process, and this is their list
-pub record IsRunning (pick : Pick) (p : Process) (s : Progress) (es : List Entry) : Type 0 where
-  pub far : IsPlainSoFar pick s
-  pub opening : s.opening ≡ p
-  pub entries : es ≡ s.entries
-
 -- a plain run may end so here
 pub record IsPlainEnd (s : Progress) (end : End) : Type 0 where
   pub right : IsRightEnd s.last (exponent_after s.entries s.last) end
   pub stop : StopsPlainly s.last end
 
 -- one entry more, which goes on in plain order and follows, or the end, where nothing changed
-abbrev pub IsAdvanced : Pick → Progress → Option End → Progress → List Entry → Type 0
-IsAdvanced pick s None t es =
-    IsRunning pick s.opening t es × (length es ≡ suc (length s.entries))
-IsAdvanced pick s (Some end) t es = (t ≡ s) × (es ≡ s.entries) × IsPlainEnd s end
+abbrev pub IsAdvanced : Pick → Progress → Option End → Progress → Type 0
+IsAdvanced pick s None t =
+    IsPlainSoFar pick t × (t.opening ≡ s.opening) × (length t.entries ≡ suc (length s.entries))
+IsAdvanced pick s (Some end) t = (t ≡ s) × IsPlainEnd s end
+
+-- the trace of what was made, with its end and its weight
+abbrev pub trace_of : Progress → Ended → Trace
+trace_of s ended = record { entries = s.entries; end = ended.end; weight = ended.weight }

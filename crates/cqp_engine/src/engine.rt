@@ -1,11 +1,12 @@
 //! The contract of a run in one place: which part is next, what it does, and entries that are
 //! tried. Contracts see how far the run has come, as its `Progress`.
 
-ghost use Rattle.std.specs.Prelude.{◌≡◌, ◌↔◌, IsTrue, IfOk, OnErr, length};
+ghost use Rattle.std.specs.Prelude.{◌≡◌, ◌↔◌, IsSome, IsTrue, IfOk, OnErr, length};
 ghost use Rattle.cqp_ring.specs.Weight.{IsLeast};
 ghost use Rattle.cqp_cells.specs.Config.{part_at};
 ghost use Rattle.cqp_cells.specs.Lawful.{IsBeforeH, exponent_after};
 ghost use Rattle.cqp_cells.specs.Probability.{IsProbability};
+ghost use Rattle.cqp_cells.specs.Step.{next};
 ghost use Rattle.cqp_cells.specs.Waiting.{CanGoOn};
 ghost use Rattle.cqp_paths.specs.Follows.{measure_total};
 ghost use Rattle.cqp_engine.specs.Progress.{Progress, HasPath, IsTried};
@@ -71,6 +72,13 @@ pub trait Engine {
     /// Tries an entry. Where it isn't made, and without memory, nothing changes.
     fn step(&mut self, alloc: Global, entry: &Entry) -> Result<Fit, NoMemory>
         ensures fit { IfOk result (λ fit. IsTried (progress self.old) entry.now fit
+            (progress self.new)) }
+        ensures err { OnErr result (progress self.new ≡ progress self.old) };
+
+    /// Tries an entry that is a reduction, so that it is made unless the exponent is at its limit.
+    fn make(&mut self, alloc: Global, entry: Entry) -> Result<Fit, NoMemory>
+        requires { IsSome (next (progress self.old).last entry) }
+        ensures fit { IfOk result (λ fit. IsTried (progress self.old) entry fit
             (progress self.new)) }
         ensures err { OnErr result (progress self.new ≡ progress self.old) };
 

@@ -9,5 +9,5 @@ mod replaying;
 
 pub use engine::{Engine, Fit, Upcoming};
 pub use laws::{end_laws, replay_laws, step_laws, upcoming_laws};
-pub use plain::plain_run;
+pub use plain::{Ended, plain_run};
 pub use replaying::{ReplayEnd, Replayed, replay};

@@ -1,12 +1,13 @@
 //! The run on one thread: in plain order, with the outcomes that a chooser answers.
 
-ghost use Rattle.std.specs.Prelude.{◌≡◌, IfOk, map};
+ghost use Rattle.std.specs.Prelude.{◌≡◌, IfOk, OnOk};
 ghost use Rattle.cqp_choose.specs.Chooses.{Chooses};
 ghost use Rattle.cqp_cells.specs.Waiting.{CanGoOn};
 ghost use Rattle.cqp_paths.specs.Follows.{measure_total};
 ghost use Rattle.cqp_paths.specs.Runs.{IsPlainRun};
-ghost use Rattle.cqp_engine.specs.PlainRuns.{IsAdvanced, IsChosen, IsRunning, answers_of};
-ghost use Rattle.cqp_engine.specs.Progress.{HasMade, IsSound, fresh};
+ghost use Rattle.cqp_engine.specs.PlainRuns.{IsAdvanced, IsChosen, IsPlainSoFar};
+ghost use Rattle.cqp_engine.specs.PlainRuns.{answers_of, trace_of};
+ghost use Rattle.cqp_engine.specs.Progress.{IsSound, fresh};
 ghost use Rattle.cqp_engine.specs.Upcoming.{IsLeastPart, IsMeasuring, told_norms};
 
 use crate::engine::{Engine, Fit, Upcoming};
@@ -14,11 +15,18 @@ use cqp_cells::exponent_laws;
 use cqp_choose::Kept;
 use cqp_lists::NoMemory;
 use cqp_paths::{active_laws, order_laws, progress_laws, size_laws};
-use cqp_ring::Root;
+use cqp_ring::{Root, Weight};
 use cqp_syntax::Names;
-use cqp_trace::{Deed, End, Entries, Entry, Trace};
+use cqp_trace::{Deed, End, Entry};
 use cqp_vector::Odd;
 use std::alloc::Global;
+
+/// How a run ended, and the probability of its entries.
+#[derive(Clone, Copy, Debug)]
+pub struct Ended {
+    pub end: End,
+    pub weight: Weight,
+}
 
 /// Runs the engine's process to its end, in plain order. The function is asked for the index of
 /// each outcome. Want of memory is the one error, and then nothing is said of the engine.
@@ -26,25 +34,20 @@ pub fn plain_run<E: Engine, F: Fn(u64, &[Root]) -> u64>(
     alloc: Global,
     engine: &mut E,
     chooser: &Kept<F>,
-) -> Result<Trace, NoMemory>
+) -> Result<Ended, NoMemory>
     requires fresh { E.progress engine.old ≡ fresh (E.progress engine.old).opening }
     requires sound { IsSound (E.progress engine.old).opening }
     requires kept { Chooses (F.pre chooser.now) (F.post chooser.now) }
-    ensures run { IfOk result (λ trace. IsPlainRun (answers_of (F.post chooser.now))
-        (E.progress engine.old).opening trace) }
-    ensures made { IfOk result (λ trace. HasMade (E.progress engine.old).opening trace.entries
-        (E.progress engine.new)) }
+    ensures run { IfOk result (λ ended. IsPlainRun (answers_of (F.post chooser.now))
+        (E.progress engine.old).opening (trace_of (E.progress engine.new) ended)) }
+    ensures opening { OnOk result
+        ((E.progress engine.new).opening ≡ (E.progress engine.old).opening) }
 {
     size_laws();
-    let mut entries = Entries::new(alloc);
     loop {
-        if let Some(end) = advance(alloc, engine, chooser, &mut entries)? {
+        if let Some(end) = advance(alloc, engine, chooser)? {
             let weight = engine.weight();
-            return Ok(Trace {
-                entries,
-                end,
-                weight,
-            });
+            return Ok(Ended { end, weight });
         }
     }
 }
@@ -54,18 +57,16 @@ fn advance<E: Engine, F: Fn(u64, &[Root]) -> u64>(
     alloc: Global,
     engine: &mut E,
     chooser: &Kept<F>,
-    entries: &mut Entries,
 ) -> Result<Option<End>, NoMemory>
     requires sound { IsSound (E.progress engine.old).opening }
     requires kept { Chooses (F.pre chooser.now) (F.post chooser.now) }
-    requires running { IsRunning (answers_of (F.post chooser.now)) (E.progress engine.old).opening
-        (E.progress engine.old) entries.old }
+    requires running { IsPlainSoFar (answers_of (F.post chooser.now)) (E.progress engine.old) }
     ensures { IfOk result (λ end. IsAdvanced (answers_of (F.post chooser.now))
-        (E.progress engine.old) end (E.progress engine.new) entries.new) }
+        (E.progress engine.old) end (E.progress engine.new)) }
 {
     progress_laws();
     match engine.least(alloc)? {
-        Some(part) => advance_by(alloc, engine, chooser, entries, part),
+        Some(part) => advance_by(alloc, engine, chooser, part),
         None => Ok(Some(End::Done {
             left: engine.left(),
         })),
@@ -77,25 +78,20 @@ fn advance_by<E: Engine, F: Fn(u64, &[Root]) -> u64>(
     alloc: Global,
     engine: &mut E,
     chooser: &Kept<F>,
-    entries: &mut Entries,
     part: u32,
 ) -> Result<Option<End>, NoMemory>
     requires sound { IsSound (E.progress engine.old).opening }
     requires kept { Chooses (F.pre chooser.now) (F.post chooser.now) }
-    requires running { IsRunning (answers_of (F.post chooser.now)) (E.progress engine.old).opening
-        (E.progress engine.old) entries.old }
+    requires running { IsPlainSoFar (answers_of (F.post chooser.now)) (E.progress engine.old) }
     requires least { IsLeastPart (E.progress engine.old).last part }
     ensures { IfOk result (λ end. IsAdvanced (answers_of (F.post chooser.now))
-        (E.progress engine.old) end (E.progress engine.new) entries.new) }
+        (E.progress engine.old) end (E.progress engine.new)) }
 {
     progress_laws();
     exponent_laws();
     let entry = next_entry(alloc, engine, chooser, part)?;
-    match engine.step(alloc, &entry)? {
-        Fit::Made => {
-            entries.push(entry)?;
-            Ok(None)
-        }
+    match engine.make(alloc, entry)? {
+        Fit::Made => Ok(None),
         _ => Ok(Some(End::Stopped { part })),
     }
 }

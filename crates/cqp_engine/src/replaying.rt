@@ -3,7 +3,7 @@
 ghost use Rattle.std.specs.Prelude.{◌≡◌, ◌↔◌, ◌+◌, ◌<◌, ◌^◌, IsTrue, IfOk};
 ghost use Rattle.cqp_syntax.specs.Measures.{size};
 ghost use Rattle.cqp_cells.specs.Lawful.{IsRightEnd, exponent_after};
-ghost use Rattle.cqp_engine.specs.Progress.{HasPath, IsSound, fresh};
+ghost use Rattle.cqp_engine.specs.Progress.{HasMade, HasPath, IsSound, fresh};
 ghost use Rattle.cqp_engine.specs.Replays.{IsRemade, IsReplayed};
 
 use crate::engine::{Engine, Fit};
@@ -39,7 +39,9 @@ pub fn replay<E: Engine>(
     requires fresh { E.progress engine.old ≡ fresh (E.progress engine.old).opening }
     requires sound { IsSound (E.progress engine.old).opening }
     requires short { size (E.progress engine.old).opening + 1 < 2 ^ 32 }
-    ensures { IsReplayed (E.progress engine.old).opening trace.now result }
+    ensures replayed { IsReplayed (E.progress engine.old).opening trace.now result }
+    ensures made { IfOk result (λ _. HasMade (E.progress engine.old).opening trace.now.entries
+        (E.progress engine.new)) }
 {
     size_laws();
     let entries = remade(alloc, engine, trace.entries.as_slice())?;

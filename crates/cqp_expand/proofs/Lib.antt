@@ -1,5 +1,6 @@
 pub mod Agreeing
 pub mod AllOutlines
+pub mod Alone
 pub mod ArgsLeft
 pub mod BinderCounts
 pub mod Bodies

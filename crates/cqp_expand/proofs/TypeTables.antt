@@ -52,7 +52,7 @@ type_last types t k e =
     ap (λ z. tree_in z k) (trees-append [] types (t ∷ [])) ∙ or_behind trees [] k (tree_of (tree_in trees) t) int_type (omega (arith, e, count))
 
 -- numbers below n pass the test
-parts_test : (n : ℕ) (xs : List ℕ) → AllByRecursion (λ k. k < n) xs → list_all (λ k. nat_lt k n) xs ≡ true
+pub parts_test : (n : ℕ) (xs : List ℕ) → AllByRecursion (λ k. k < n) xs → list_all (λ k. nat_lt k n) xs ≡ true
 parts_test n [] h = refl
 parts_test n (x ∷ xs) h =
     let less = h.0 in

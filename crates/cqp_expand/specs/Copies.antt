@@ -1,6 +1,6 @@
 -- What the copy needs of a program's outlines, and what it leaves. No public clause cites this
 -- module.
-use Rattle.std.specs.Prelude.{◌≡◌, ℕ, ◌≤◌, List, [], map, length, true, nat_lt}
+use Rattle.std.specs.Prelude.{◌≡◌, ℕ, ◌≤◌, List, [], ◌∷◌, map, length, true, nat_lt}
 use Rattle.std.specs.List.{list_all}
 use Rattle.cqp_syntax.specs.declared.node.Node.{Node}
 use Rattle.cqp_syntax.specs.declared.ty.Ty.{Ty}
@@ -9,6 +9,8 @@ use Rattle.cqp_syntax.specs.Binders.{binders_of}
 use Rattle.cqp_syntax.specs.Preorder.{process_nodes}
 use Rattle.cqp_grammar.specs.Trees.{ProgramTree}
 use Rattle.cqp_expand.specs.declared.outline.Outline.{Outline}
+use Rattle.cqp_expand.specs.declared.outline.Member.{Member}
+use Rattle.cqp_expand.specs.declared.outline.Member.TheVariants.{Own, Call}
 use Rattle.cqp_expand.specs.Counts.{count_of}
 use Rattle.cqp_expand.specs.Expansion.{expansion, expansion_offsets}
 use Rattle.cqp_expand.specs.Faults.{scope_faults}
@@ -19,6 +21,12 @@ pub record IsSmall (t : ProgramTree) (types : List Ty) (outlines : List Outline)
   pub faultless : scope_faults t ≡ []
   pub scanned : AreBehind types [] [] t.defs t.main outlines
   pub small : count_of (expansion t) ≤ 20000
+
+-- the nodes among members, which are no calls
+abbrev pub own_nodes : List Member → List Node
+own_nodes [] = []
+own_nodes (Own x ∷ xs) = x ∷ own_nodes xs
+own_nodes (Call def args ∷ xs) = own_nodes xs
 
 -- the lists are those of the program's process
 pub record IsCopyOf (t : ProgramTree) (types : List Ty) (nodes : List Node) (ty_of at : List ℕ)

@@ -20,6 +20,7 @@ mod renumbering;
 mod scan;
 mod scope;
 mod sizes;
+mod spread;
 mod types;
 
 pub use cqp_outside::NoMemory;

@@ -5,11 +5,11 @@ ghost use Rattle.cqp_grammar.specs.Trees.{ProgramTree};
 ghost use Rattle.cqp_program.specs.Programs.{IsProgramListing};
 ghost use Rattle.cqp_expand.specs.Outcomes.{answer_of, IsExpanded, Ends};
 
-use crate::copy::copied;
 use crate::end::ExpandEnd;
 use crate::fault::{FaultKind, ScopeFault};
 use crate::scan::Scanned;
 use crate::sizes::MOST;
+use crate::spread::spread;
 use cqp_program::Program;
 use cqp_syntax::{Proc, Types};
 use std::alloc::Global;
@@ -28,7 +28,7 @@ pub fn expand(alloc: Global, program: &Program) -> Result<Proc, ExpandEnd>
     if outlines[main].count > MOST {
         return Err(ExpandEnd::Large);
     }
-    let copy = copied(alloc, outlines, main)?;
+    let copy = spread(alloc, scanned.outlines)?;
     let types = Types::from_vec(scanned.types.into_types());
     Ok(Proc::make(copy.nodes, types, copy.ty_of, copy.at))
 }

@@ -7,7 +7,7 @@ use Rattle.cqp_order.specs.Groups.{Group, group_of, InGroup, IsKept}
 use Rattle.cqp_order.specs.Least.{IsLeast}
 use Rattle.cqp_order.specs.Stands.{IsActive, change, stand_at, IsChange, IsWithin}
 use Rattle.std.proofs.lemmas.Option.{none-some}
-use Rattle.cqp_order.proofs.PlaceLemmas.{eq_yes, not_both}
+use Rattle.cqp_order.proofs.NumberLemmas.{eq_yes, not_both}
 use Rattle.cqp_order.proofs.SplitLemmas.{least_of}
 use Rattle.cqp_order.proofs.GroupLemmas.{same_group, some_group, in_active, one_group, group_kept, group_is, kept_coming, kept_leaving}
 

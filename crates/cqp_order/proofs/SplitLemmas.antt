@@ -1,36 +1,12 @@
 -- The sides of all channels after a part came or left, and the least active part of a channel.
-use Rattle.std.proofs.Common.{arith, ◌≡◌, ◌≤◌, ◌⊎◌, IsTrue, true, false, ℕ, List, sym, ◌∙◌, subst, Bool, refl, ap, cond, Some, None, Option, nat_le}
+use Rattle.std.proofs.Common.{arith, ◌≡◌, ◌≤◌, ◌⊎◌, true, false, ℕ, sym, ◌∙◌, subst, Bool, refl, cond, Some, None, Option, nat_le}
 use mathlib.Core.Logic.{inl, inr}
 use Rattle.cqp_order.specs.declared.stand.Stand.{Stand}
-use Rattle.cqp_order.specs.declared.stand.Stand.TheVariants.{Alone, Sends, Receives}
+use Rattle.cqp_order.specs.declared.stand.Stand.TheVariants.{Sends, Receives}
 use Rattle.cqp_order.specs.Groups.{InGroup, chan_group}
 use Rattle.cqp_order.specs.Least.{IsLeast}
-use Rattle.cqp_order.specs.Places.{waits}
-use Rattle.cqp_order.specs.Sides.{is_sending, is_receiving, IsSplit, lesser_of_both}
+use Rattle.cqp_order.specs.Sides.{lesser_of_both}
 use Rattle.cqp_order.specs.Stands.{Meets}
-use Rattle.cqp_order.proofs.PlaceLemmas.{eq_yes}
-
--- who stands as a sender on a channel is told so
-pub sending : (o : Option Stand) (c : ℕ) → o ≡ Some (Sends c) → is_sending c o ≡ true
-sending o c e = rw e grind arith
-
--- a part that receives passes the test
-pub receiving : (o : Option Stand) (c : ℕ) → o ≡ Some (Receives c) → is_receiving c o ≡ true
-receiving o c e = rw e grind arith
-
--- and who is told so stands so
-pub sends : (o : Option Stand) (c : ℕ) → is_sending c o ≡ true → o ≡ Some (Sends c)
-sends None c e = let f : false ≡ true = e in cc
-sends (Some Alone) c e = let f : false ≡ true = e in cc
-sends (Some (Sends d)) c e = ap (λ k. Some (Sends k)) (eq_yes d c e)
-sends (Some (Receives d)) c e = let f : false ≡ true = e in cc
-
--- what passes the test receives
-pub receives : (o : Option Stand) (c : ℕ) → is_receiving c o ≡ true → o ≡ Some (Receives c)
-receives None c e = let f : false ≡ true = e in cc
-receives (Some Alone) c e = let f : false ≡ true = e in cc
-receives (Some (Sends d)) c e = let f : false ≡ true = e in cc
-receives (Some (Receives d)) c e = ap (λ k. Some (Receives k)) (eq_yes d c e)
 
 module _ (at : ℕ → Option Stand) (c : ℕ) where
   -- the lesser of a sender and a receiver is the least, where each is the least of its side
@@ -79,11 +55,3 @@ module _ (at : ℕ → Option Stand) (part c : ℕ) where
   pub receiver_meets : (m : Option ℕ) → at part ≡ Some (Receives c) → IsLeast (λ k. at k ≡ Some (Sends c)) m → IsLeast (Meets at part) m
   receiver_meets m e = least_of _ _ m (λ k s. (c, inr (e, s)))
       (λ k x. elim x.1 [ inl y ↦ elim (one_stand _ x.0 c y.0 e) [ ] | inr y ↦ subst (λ d. at k ≡ Some (Sends d)) (one_receiving _ c x.0 e y.0) y.1 ])
-
-module _ (at : ℕ → Option Stand) (senders receivers : List (ℕ × ℕ)) (split : IsSplit at senders receivers) (c : ℕ) where
-  -- the least on a side of the channel is the least that stands so
-  pub least_sender : (m : Option ℕ) → IsLeast (λ k. IsTrue (waits senders c k)) m → IsLeast (λ k. at k ≡ Some (Sends c)) m
-  least_sender m = least_of _ _ m (λ k h. sends (at k) c (sym (split.0 c k) ∙ h)) (λ k e. split.0 c k ∙ sending (at k) c e)
-
-  pub least_receiver : (m : Option ℕ) → IsLeast (λ k. IsTrue (waits receivers c k)) m → IsLeast (λ k. at k ≡ Some (Receives c)) m
-  least_receiver m = least_of _ _ m (λ k h. receives (at k) c (sym (split.1 c k) ∙ h)) (λ k e. split.1 c k ∙ receiving (at k) c e)

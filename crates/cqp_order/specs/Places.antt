@@ -1,23 +1,39 @@
--- One side of all channels: which parts wait there, as pairs of a channel and a part.
-use Rattle.std.specs.Prelude.{◌≡◌, ◌==◌, ◌&&◌, ℕ, Bool, List, Option, None, Some, if◌then◌else◌}
+-- One side of all channels: by channel the numbers of the parts that wait there.
+use Rattle.std.specs.Prelude.{◌≡◌, ◌≢◌, ◌==◌, ℕ, Bool, List, [], Option, None, Some, IsTrue}
+use Rattle.std.specs.Prelude.{slice_index_or}
 use Rattle.std.specs.List.{list_any}
-use Rattle.std.specs.Ordering.{ordering_then, nat_cmp}
+use Rattle.std.specs.Ordering.{nat_cmp}
 use Rattle.std.specs.declared.cmp.Ordering.{Ordering}
-use Rattle.std.specs.BTreeMap.{is_at}
+use Rattle.std.specs.declared.cmp.Reverse.{Reverse}
+use Rattle.cqp_order.specs.declared.stand.Stand.{Stand}
+use Rattle.cqp_order.specs.Least.{IsLeast}
 
--- the order of places: by channels, and by parts within one
-abbrev pub place_cmp : ℕ × ℕ → ℕ × ℕ → Ordering
-place_cmp x y = ordering_then (nat_cmp x.0 y.0) (nat_cmp x.1 y.1)
+-- the order of numbers of which the least comes first
+abbrev pub least_first : Reverse ℕ → Reverse ℕ → Ordering
+least_first x y = nat_cmp y.0 x.0
+
+-- whether a number is among these
+abbrev pub has : List (Reverse ℕ) → ℕ → Bool
+has numbers k = list_any (λ x. x.0 == k) numbers
+
+-- the numbers by channel
+abbrev pub Waiting : Type 0
+Waiting = List (List (Reverse ℕ))
 
 -- whether part k waits on channel c
-abbrev pub waits : List (ℕ × ℕ) → ℕ → ℕ → Bool
-waits places c k = list_any (is_at (place_cmp (c, k))) places
+abbrev pub waits : Waiting → ℕ → ℕ → Bool
+waits side c k = has (slice_index_or side c []) k
 
--- `new` has part k on channel c exactly if b, and each other place exactly if `old` has
-abbrev pub Changes : List (ℕ × ℕ) → List (ℕ × ℕ) → ℕ → ℕ → Bool → Type 0
-Changes old new c k b =
-    (d i : ℕ) → waits new d i ≡ (if k == i && c == d then b else waits old d i)
+-- how part k stands, of stands by number
+abbrev pub stands_in : List (Option Stand) → ℕ → Option Stand
+stands_in parts k = slice_index_or parts k None
 
--- the part of a place, if that is on channel c
-abbrev pub part_on : ℕ → ℕ × ℕ → Option ℕ
-part_on c place = if place.0 == c then Some place.1 else None
+-- who stands so waits still on channel c, the least there stands so, and other channels are as they
+-- were
+pub record IsSettled (old new : Waiting) (c : ℕ) (parts : List (Option Stand)) (stand : Stand)
+    : Type 0 where
+  pub kept : (k : ℕ) → stands_in parts k ≡ Some stand → IsTrue (waits old c k)
+      → IsTrue (waits new c k)
+  pub least : (m : ℕ) → IsLeast (λ k. IsTrue (waits new c k)) (Some m)
+      → stands_in parts m ≡ Some stand
+  pub others : (d k : ℕ) → d ≢ c → waits new d k ≡ waits old d k

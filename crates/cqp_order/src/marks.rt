@@ -56,13 +56,17 @@ impl Marks {
         self.tree[1]
     }
 
-    /// Marks `after` in the place of `before`.
+    /// Marks `after` in the place of `before`, which is marked.
     pub fn renew(&mut self, before: Option<u32>, after: Option<u32>)
         requires before { IfSome before (λ k. k < self.old.1) }
+        requires marked { IfSome before (λ k. IsTrue (is_marked self.old k)) }
         requires after { IfSome after (λ k. k < self.old.1) }
         ensures room { self.new.1 ≡ self.old.1 }
         ensures marks { Renews (is_marked self.old) (is_marked self.new) before after }
     {
+        if before == after {
+            return;
+        }
         self.set_if(before, false);
         self.set_if(after, true);
     }

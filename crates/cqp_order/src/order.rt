@@ -1,6 +1,6 @@
 //! Which part is the least that takes part in a reduction, and with whom.
 
-ghost use Rattle.std.specs.Prelude.{◌≡◌, ◌<◌, [], Some, None, OnOk, OnErr, IfOk};
+ghost use Rattle.std.specs.Prelude.{◌≡◌, ◌<◌, [], Some, None, OnOk, OnErr, IfOk, IfSome};
 ghost use Rattle.cqp_order.specs.Groups.{InGroup, group_of};
 ghost use Rattle.cqp_order.specs.Least.{IsLeast};
 ghost use Rattle.cqp_order.specs.Stands.{stand_at, IsChange, IsLeastTurn};
@@ -20,7 +20,7 @@ pub struct Order {
 }
 
 impl Model for Order {
-    ghost use Rattle.std.specs.Prelude.{ℕ, List};
+    ghost use Rattle.std.specs.Prelude.{◌≡◌, ℕ, List};
     ghost use Rattle.cqp_order.specs.declared.stand.Stand.{Stand as Seen};
     ghost use Rattle.cqp_order.specs.Groups.{IsKept};
     ghost use Rattle.cqp_order.specs.Marks.{is_marked};
@@ -28,10 +28,10 @@ impl Model for Order {
 
     ghost Value = { List (ℕ × Seen) × ℕ };
 
-    ghost view = { λ o. (o.stands, o.marks.1) };
+    ghost view = { λ o. o.stands };
 
-    ghost invariant = { λ o. IsKept (stand_at o.stands) (is_marked o.marks)
-        × IsWithin o.stands o.marks.1 };
+    ghost invariant = { λ o. IsKept (stand_at o.stands.0) (is_marked o.marks)
+        × IsWithin o.stands.0 o.stands.1 × (o.marks.1 ≡ o.stands.1) };
 }
 
 impl Order {
@@ -41,7 +41,7 @@ impl Order {
         ensures { IfOk result (λ o. o ≡ ([], room)) }
     {
         let marks = Marks::new(alloc, room)?;
-        let stands = Stands::new(alloc);
+        let stands = Stands::new(alloc, room)?;
         Ok(Order { stands, marks })
     }
 
@@ -89,6 +89,24 @@ impl Order {
         Some(stand)
     }
 
+    /// The part stands so from now on, or is not there. It takes the time of `put`, or little where it
+    /// stood so before. `Err` is want of memory; then the part is not there.
+    pub fn renew(&mut self, part: u32, stand: Option<Stand>) -> Result<(), NoMemory>
+        requires { IfSome stand (λ s. part < self.old.1) }
+        ensures done { OnOk result (IsChange self.old.0 self.new.0 part stand) }
+        ensures room { self.new.1 ≡ self.old.1 }
+        ensures err { OnErr result (IsChange self.old.0 self.new.0 part None) }
+    {
+        if self.stand(part) == stand {
+            return Ok(());
+        }
+        self.take(part);
+        match stand {
+            Some(stand) => self.put(part, stand),
+            None => Ok(()),
+        }
+    }
+
     /// The least part that takes part in a reduction, and the least with whom it may. `None` where
     /// no part does. It takes the time of `put`.
     pub fn least(&self) -> Option<Turn>
@@ -102,7 +120,7 @@ impl Order {
 
 /// The least active part of the group of a part that stands so, or stood so.
 fn lead(stands: &Stands, part: u32, stand: Stand) -> Option<u32>
-    ensures { IsLeast (InGroup (stand_at stands.now) (group_of part stand)) result }
+    ensures { IsLeast (InGroup (stand_at stands.now.0) (group_of part stand)) result }
 {
     match stand {
         Stand::Alone => match stands.get(part) {

@@ -1,27 +1,31 @@
-//! One side of all channels: the parts that wait there, in the order of channels and parts.
+//! One side of all channels: for each channel the parts that wait there, and maybe parts that
+//! waited there, but never as the least. Contracts see the numbers by channel.
 
-ghost use Rattle.std.specs.Prelude.{◌≡◌, IsTrue, true, false, OnOk, OnErr, []};
+ghost use Rattle.std.specs.Prelude.{◌≡◌, ◌<◌, ◌==◌, ◌&&◌, ◌||◌, ℕ, IsTrue, OnOk, OnErr, []};
+ghost use Rattle.std.specs.Prelude.{length};
 ghost use Rattle.cqp_order.specs.Least.{IsLeast};
-ghost use Rattle.cqp_order.specs.Places.{waits, part_on, Changes};
+ghost use Rattle.cqp_order.specs.Places.{IsSettled, waits};
 
-use crate::stand::NoMemory;
-use std::alloc::{AllocError, Global};
-use std::collections::BTreeSet;
+use crate::queue::Queue;
+use crate::stand::{NoMemory, Stand};
+use std::alloc::Global;
 use std::marker::Model;
-use std::ops::Bound;
 
-/// The parts that wait on one side of a channel, for all channels.
+/// Numbers of parts by the channel on which they wait. It takes memory for each channel below the
+/// greatest that was named.
 #[derive(Drop)]
 pub struct Side {
-    places: BTreeSet<(u32, u32)>,
+    queues: Vec<Queue>,
+    alloc: Global,
 }
 
 impl Model for Side {
     ghost use Rattle.std.specs.Prelude.{ℕ, List};
+    ghost use Rattle.std.specs.declared.cmp.Reverse.{Reverse as Number};
 
-    ghost Value = { List (ℕ × ℕ) };
+    ghost Value = { List (List (Number ℕ)) };
 
-    ghost view = { λ s. s.places.keys };
+    ghost view = { λ s. s.queues.items };
 }
 
 impl Side {
@@ -30,46 +34,45 @@ impl Side {
         ensures { result ≡ [] }
     {
         Side {
-            places: BTreeSet::new(alloc),
+            queues: Vec::new(alloc),
+            alloc,
         }
     }
 
     /// The part waits on the channel from now on.
     pub fn put(&mut self, chan: u32, part: u32) -> Result<(), NoMemory>
-        ensures done { OnOk result (Changes self.old self.new chan part true) }
-        ensures err { OnErr result (self.new ≡ self.old) }
+        ensures done { OnOk result ((c k : ℕ) → waits self.new c k
+            ≡ ((part == k && chan == c) || waits self.old c k)) }
+        ensures err { OnErr result ((c k : ℕ) → waits self.new c k ≡ waits self.old c k) }
     {
-        match self.places.insert((chan, part)) {
-            Ok(_) => Ok(()),
-            Err(_) => Err(AllocError),
-        }
+        self.open(chan)?;
+        self.queues[chan as usize].put(part)
     }
 
-    /// The part does not wait on the channel any more.
-    pub fn take(&mut self, chan: u32, part: u32)
-        ensures { Changes self.old self.new chan part false }
+    // The channel has a queue.
+    fn open(&mut self, chan: u32) -> Result<(), NoMemory>
+        ensures there { OnOk result (chan < length self.new) }
+        ensures same { (c k : ℕ) → waits self.new c k ≡ waits self.old c k }
     {
-        self.places.remove(&(chan, part));
+        while self.queues.len() <= chan as usize {
+            self.queues.push(Queue::new(self.alloc))?;
+        }
+        Ok(())
     }
 
     /// The least part that waits on the channel.
     pub fn least(&self, chan: u32) -> Option<u32>
         ensures { IsLeast (λ k. IsTrue (waits self.now chan k)) result }
     {
-        let start = (Bound::Included((chan, 0)), Bound::Unbounded);
-        match self.places.range(start).next() {
-            Some(place) => on_channel(chan, *place),
-            None => None,
+        self.queues.get(chan as usize)?.least()
+    }
+
+    /// A part doesn't wait on the channel any more, and the least there is one that stands so.
+    pub fn settle(&mut self, chan: u32, parts: &[Option<Stand>], stand: Stand)
+        ensures { IsSettled self.old self.new chan parts.now stand }
+    {
+        if let Some(queue) = self.queues.get_mut(chan as usize) {
+            queue.settle(parts, stand);
         }
     }
-}
-
-/// The part of the place, if that is on the channel.
-fn on_channel(chan: u32, place: (u32, u32)) -> Option<u32>
-    ensures { result ≡ part_on chan place }
-{
-    if place.0 == chan {
-        return Some(place.1);
-    }
-    None
 }

@@ -1,7 +1,10 @@
 //! Both sides of all channels: the parts that wait there, by the stands that say so.
 
-ghost use Rattle.std.specs.Prelude.{◌≡◌, [], true, false, OnOk, OnErr};
-ghost use Rattle.cqp_order.specs.Sides.{Moves, is_sending, is_receiving, lesser_of_both};
+ghost use Rattle.std.specs.Prelude.{◌≡◌, ◌==◌, ◌&&◌, ◌||◌, ℕ, [], Some, OnOk, OnErr};
+ghost use Rattle.cqp_order.specs.declared.stand.Stand.TheVariants as stands;
+ghost use Rattle.cqp_order.specs.Places.{waits};
+ghost use Rattle.cqp_order.specs.Sides.{Goes, is_sending, is_receiving, lesser_of_both};
+ghost use Rattle.cqp_order.specs.Sides.{StillWaits};
 
 use crate::side::Side;
 use crate::stand::{NoMemory, Stand};
@@ -29,10 +32,13 @@ impl Sides {
     /// The part waits from now on where its stand says.
     pub fn enter(&mut self, part: u32, stand: Stand) -> Result<(), NoMemory>
         ensures senders { OnOk result
-            (Moves is_sending self.old.senders self.new.senders part stand true) }
+            (StillWaits is_sending self.old.senders self.new.senders part stand) }
         ensures receivers { OnOk result
-            (Moves is_receiving self.old.receivers self.new.receivers part stand true) }
-        ensures err { OnErr result (self.new ≡ self.old) }
+            (StillWaits is_receiving self.old.receivers self.new.receivers part stand) }
+        ensures same_senders { OnErr result
+            ((c k : ℕ) → waits self.new.senders c k ≡ waits self.old.senders c k) }
+        ensures same_receivers { OnErr result
+            ((c k : ℕ) → waits self.new.receivers c k ≡ waits self.old.receivers c k) }
     {
         match stand {
             Stand::Alone => Ok(()),
@@ -41,15 +47,16 @@ impl Sides {
         }
     }
 
-    /// The part does not wait any more where its stand says.
-    pub fn leave(&mut self, part: u32, stand: Stand)
-        ensures senders { Moves is_sending self.old.senders self.new.senders part stand false }
-        ensures receivers { Moves is_receiving self.old.receivers self.new.receivers part stand false }
+    /// A part that stood so does so no more, and the least that wait are parts that do.
+    pub fn leave(&mut self, stand: Stand, parts: &[Option<Stand>])
+        ensures senders { Goes stands.Sends self.old.senders self.new.senders stand parts.now }
+        ensures receivers { Goes stands.Receives self.old.receivers self.new.receivers stand
+            parts.now }
     {
         match stand {
             Stand::Alone => {}
-            Stand::Sends { chan } => self.senders.take(chan, part),
-            Stand::Receives { chan } => self.receivers.take(chan, part),
+            Stand::Sends { chan } => self.senders.settle(chan, parts, stand),
+            Stand::Receives { chan } => self.receivers.settle(chan, parts, stand),
         }
     }
 }

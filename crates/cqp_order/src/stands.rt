@@ -1,87 +1,84 @@
 //! The parts with their stands, and who is active on a channel.
 
-ghost use Rattle.std.specs.Prelude.{◌≡◌, [], Some, None, OnOk, OnErr};
+ghost use Rattle.std.specs.Prelude.{◌≡◌, ◌<◌, [], Some, None, IfOk, OnOk, OnErr};
 ghost use Rattle.cqp_order.specs.Groups.{InGroup, chan_group};
 ghost use Rattle.cqp_order.specs.Least.{IsLeast};
 ghost use Rattle.cqp_order.specs.Stands.{stand_at, IsChange, Meets};
 
+use crate::queue::stand_in;
 use crate::sides::{Sides, lesser_of_both};
 use crate::stand::{NoMemory, Stand};
-use std::alloc::{AllocError, Global};
-use std::collections::BTreeMap;
+use std::alloc::Global;
 use std::marker::Model;
 
-/// The parts with their stands.
+/// The parts with their stands, by number, and the room: seen as pairs, in the order of the parts,
+/// beside the room.
 #[derive(Drop)]
 pub struct Stands {
-    parts: BTreeMap<u32, Stand>,
+    parts: Vec<Option<Stand>>,
     sides: Sides,
 }
 
 impl Model for Stands {
-    ghost use Rattle.std.specs.Prelude.{ℕ, List};
+    ghost use Rattle.std.specs.Prelude.{ℕ, List, length};
     ghost use Rattle.cqp_order.specs.declared.stand.Stand.{Stand as Seen};
+    ghost use Rattle.cqp_order.specs.Numbered.{numbered};
     ghost use Rattle.cqp_order.specs.Stands.{stand_at};
     ghost use Rattle.cqp_order.specs.Sides.{IsSplit};
 
-    ghost Value = { List (ℕ × Seen) };
+    ghost Value = { List (ℕ × Seen) × ℕ };
 
-    ghost view = { λ s. s.parts.entries };
+    ghost view = { λ s. (numbered 0 s.parts.items, length s.parts.items) };
 
-    ghost invariant = { λ s. IsSplit (stand_at s.parts.entries) s.sides.senders s.sides.receivers };
+    ghost invariant = { λ s. IsSplit (stand_at (numbered 0 s.parts.items)) s.sides.senders
+        s.sides.receivers };
 }
 
 impl Stands {
     /// Nobody is there.
-    pub fn new(alloc: Global) -> Stands
-        ensures { result ≡ [] }
+    pub fn new(alloc: Global, room: u32) -> Result<Stands, NoMemory>
+        ensures { IfOk result (λ s. s ≡ ([], room)) }
     {
-        Stands {
-            parts: BTreeMap::new(alloc),
-            sides: Sides::new(alloc),
-        }
+        let parts = Vec::from_elem(alloc, None, room as usize)?;
+        let sides = Sides::new(alloc);
+        Ok(Stands { parts, sides })
     }
 
     /// How the part stands.
     pub fn get(&self, part: u32) -> Option<Stand>
-        ensures { result ≡ stand_at self.now part }
+        ensures { result ≡ stand_at self.now.0 part }
     {
-        self.parts.get(&part).copied()
+        stand_in(self.parts.as_slice(), part)
     }
 
     /// A part that was not there stands so from now on.
     pub fn put(&mut self, part: u32, stand: Stand) -> Result<(), NoMemory>
-        requires { stand_at self.old part ≡ None }
-        ensures done { OnOk result (IsChange self.old self.new part (Some stand)) }
+        requires absent { stand_at self.old.0 part ≡ None }
+        requires fits { part < self.old.1 }
+        ensures done { OnOk result (IsChange self.old.0 self.new.0 part (Some stand)) }
+        ensures room { self.new.1 ≡ self.old.1 }
         ensures err { OnErr result (self.new ≡ self.old) }
     {
         self.sides.enter(part, stand)?;
-        match self.parts.insert(part, stand) {
-            Ok(_) => Ok(()),
-            Err(_) => {
-                self.sides.leave(part, stand);
-                Err(AllocError)
-            }
-        }
+        self.parts[part as usize] = Some(stand);
+        Ok(())
     }
 
     /// The part leaves.
     pub fn take(&mut self, part: u32) -> Option<Stand>
-        ensures value { result ≡ stand_at self.old part }
-        ensures gone { IsChange self.old self.new part None }
+        ensures value { result ≡ stand_at self.old.0 part }
+        ensures gone { IsChange self.old.0 self.new.0 part None }
+        ensures room { self.new.1 ≡ self.old.1 }
     {
-        match self.parts.remove(&part) {
-            Some(stand) => {
-                self.sides.leave(part, stand);
-                Some(stand)
-            }
-            None => None,
-        }
+        let stand = self.get(part)?;
+        self.parts[part as usize] = None;
+        self.sides.leave(stand, self.parts.as_slice());
+        Some(stand)
     }
 
     /// The least active part on the channel.
     pub fn lead(&self, chan: u32) -> Option<u32>
-        ensures { IsLeast (InGroup (stand_at self.now) (chan_group chan)) result }
+        ensures { IsLeast (InGroup (stand_at self.now.0) (chan_group chan)) result }
     {
         lesser_of_both(
             self.sides.senders.least(chan),
@@ -91,7 +88,7 @@ impl Stands {
 
     /// The least part that meets this one.
     pub fn partner(&self, part: u32) -> Option<u32>
-        ensures { IsLeast (Meets (stand_at self.now) part) result }
+        ensures { IsLeast (Meets (stand_at self.now.0) part) result }
     {
         match self.get(part)? {
             Stand::Alone => None,

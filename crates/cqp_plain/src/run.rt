@@ -11,7 +11,7 @@ ghost use Rattle.cqp_stepper.specs.Factors.{AreFactorsAfter};
 use crate::numbers::{end_in_range, entries_in_range};
 use crate::process::process_laws;
 use cqp_choose::Kept;
-use cqp_engine::plain_run as run_engine;
+use cqp_engine::{Ended, plain_run as run_engine};
 use cqp_lists::NoMemory;
 use cqp_ring::Root;
 use cqp_stepper::Stepper;
@@ -43,10 +43,15 @@ pub fn plain_run<F: Fn(u64, &[Root]) -> u64>(
 {
     process_laws(typed);
     let mut stepper = Stepper::start(alloc, typed)?;
-    let trace = run_engine(alloc, &mut stepper, chooser)?;
-    entries_in_range(trace.entries.as_slice());
-    end_in_range(trace.end);
+    let Ended { end, weight } = run_engine(alloc, &mut stepper, chooser)?;
     stepper.weighed();
-    let factors = stepper.into_factors(alloc)?;
+    let (entries, factors) = stepper.into_parts(alloc)?;
+    entries_in_range(entries.as_slice());
+    end_in_range(end);
+    let trace = Trace {
+        entries,
+        end,
+        weight,
+    };
     Ok(Run { trace, factors })
 }

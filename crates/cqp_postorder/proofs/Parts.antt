@@ -1,8 +1,8 @@
 -- The numbers of a node's parts, found from the last to the first.
-use Rattle.std.proofs.Common.{◌≡◌, ℕ, ◌+◌, ◌-◌, ◌<◌, ◌≤◌, List, [], ◌∷◌, ◌++◌, length, get_or, take}
+use Rattle.std.proofs.Common.{◌≡◌, ℕ, ◌+◌, ◌-◌, ◌<◌, ◌≤◌, List, [], ◌∷◌, ◌++◌, length, get_or, take, drop}
 use Rattle.std.proofs.Common.{refl, sym, ◌∙◌, ap, subst, append_assoc, append-nil, length-append}
 use Rattle.std.proofs.Common.{arith, reverse}
-use Rattle.std.proofs.lemmas.List.{get_or_push, take_at, reverse-append}
+use Rattle.std.proofs.lemmas.List.{get_or_push, take_at, drop_at, reverse-append}
 use Rattle.cqp_postorder.specs.Subtrees.{Subtree, over, Subtrees, no_parts, part_and, size_of}
 use Rattle.cqp_postorder.specs.Subtrees.{sizes_of, fragment_sizes, all_fragment_sizes, Pending, nothing}
 use Rattle.cqp_postorder.specs.Subtrees.{behind, pending_numbers, pending_sizes, AreAdjacent}
@@ -143,3 +143,44 @@ pub walked_all : (whole : Pending) (rest : List ℕ) (number left : ℕ) (found 
 walked_all whole rest number left found none w =
     all_at whole rest number found w.ps (subst (λ k. AreLast rest number k w.ps) none w.last)
     w.numbers
+
+-- the same, where the numbers that are found stand behind others
+pub record WalkedBehind (first : ℕ) (front : List ℕ) (whole : Pending) (rest : List ℕ)
+    (number left : ℕ) (numbers : List ℕ) : Type 0 where
+  pub found : List ℕ
+  pub are : numbers ≡ front ++ found
+  pub many : first ≡ length front
+  pub walked : Walked whole rest number left found
+
+-- a number more stands behind them
+pub behind_more : (first : ℕ) (front : List ℕ) (whole : Pending) (rest : List ℕ)
+    (number left size : ℕ) (numbers : List ℕ)
+    → (w : WalkedBehind first front whole rest number left numbers) → 0 < left
+    → IsLastSize size rest
+    → WalkedBehind first front whole (take (length rest - size) rest) (number - size) (left - 1)
+    (numbers ++ (number - size) ∷ [])
+behind_more first front whole rest number left size numbers w some is = record {
+  found = w.found ++ (number - size) ∷ [];
+  are =
+      ap (λ xs. xs ++ (number - size) ∷ []) w.are
+      ∙ append_assoc front w.found ((number - size) ∷ []);
+  many = w.many;
+  walked = (part_step whole rest number left w.found size w.walked some is).next;
+}
+
+-- where none is left, those that were found are turned round
+pub behind_all : (first : ℕ) (front : List ℕ) (whole : Pending) (rest : List ℕ)
+    (number left : ℕ) (numbers : List ℕ) → left ≡ 0
+    → WalkedBehind first front whole rest number left numbers
+    → take first numbers ++ reverse (drop first numbers) ≡ front ++ pending_numbers whole
+behind_all first front whole rest number left numbers none w =
+    let front_is = ap (take first) w.are ∙ take_at front w.found first (sym w.many) in
+    let found_is = ap (drop first) w.are ∙ drop_at front w.found first (sym w.many) in
+    rw (front_is, found_is, walked_all whole rest number left w.found none w.walked) refl
+
+-- the others are no more than all
+pub first_within : (first : ℕ) (front : List ℕ) (whole : Pending) (rest : List ℕ)
+    (number left : ℕ) (numbers : List ℕ)
+    → WalkedBehind first front whole rest number left numbers → first ≤ length numbers
+first_within first front whole rest number left numbers w =
+    omega (arith, ap length w.are, length-append front w.found, w.many)

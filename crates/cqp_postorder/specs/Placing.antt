@@ -71,7 +71,15 @@ abbrev pub IsPlacing : Subtree → List Fragment → Placing → Type 0
 IsPlacing t left p =
     PlacesRest t left p.sizes.items p.pending.items p.nodes.items p.at.items
 
+-- the same, where the numbers of the node's parts stand behind those of the other subtrees
+pub record PlacesParts (t : Subtree) (left : List Fragment) (x : Fragment) (n : ℕ)
+    (sizes all : List ℕ) (nodes : List TreeNode) (offsets : List ℕ) : Type 0 where
+  pub found : List ℕ
+  pub numbers : List ℕ
+  pub are : all ≡ numbers ++ found
+  pub node : PlacesNode t left x n found sizes numbers nodes offsets
+
 -- these fragments of the tree are left, and x was taken, whose node has the number n
 abbrev pub IsAtNode : Subtree → List Fragment → Fragment → ℕ → Placing → Type 0
 IsAtNode t left x n p =
-    PlacesNode t left x n p.parts.items p.sizes.items p.pending.items p.nodes.items p.at.items
+    PlacesParts t left x n p.sizes.items p.pending.items p.nodes.items p.at.items

@@ -23,8 +23,6 @@ pub(crate) struct Placing {
     sizes: Vec<u32>,
     /// The numbers of the nodes that are parts of none of them, the next one last.
     pending: Vec<u32>,
-    /// The numbers of the parts of the node that was taken last.
-    parts: Vec<u32>,
     nodes: Vec<TreeNode>,
     at: Vec<u32>,
 }
@@ -46,7 +44,6 @@ impl Placing {
         Ok(Placing {
             sizes,
             pending,
-            parts: Vec::new(alloc),
             nodes,
             at,
         })
@@ -61,15 +58,16 @@ impl Placing {
             → OnOk result (IsPlacing t left self.new) }
     {
         let Fragment { kind, at } = fragment;
-        let n = self.take(part_count(&kind))?;
-        let node = node_of(alloc, kind, self.parts.as_slice())?;
-        self.pending.extend_from_slice(self.parts.as_slice())?;
+        let count = part_count(&kind);
+        let n = self.take(count)?;
+        let parts = &self.pending[self.pending.len() - count..];
+        let node = node_of(alloc, kind, parts)?;
         self.nodes[n as usize] = node;
         self.at[n as usize] = at;
         Ok(())
     }
 
-    /// Takes the next number, and finds the numbers of the parts of its node, which are so many.
+    /// Takes the next number. The numbers of the parts of its node, which are so many, come next.
     fn take(&mut self, count: usize) -> Result<u32, NoMemory>
         requires { (t : Subtree) × (left : List Fragment) × (x : Fragment)
             × IsPlacing t (left ++ x ∷ []) self.old × (count ≡ part_count x.kind) }
@@ -79,7 +77,7 @@ impl Placing {
     {
         let size = self.sizes.pop().unwrap();
         let n = self.pending.pop().unwrap();
-        find_parts(&mut self.parts, self.sizes.as_slice(), n + size, count)?;
+        find_parts(&mut self.pending, self.sizes.as_slice(), n + size, count)?;
         Ok(n)
     }
 

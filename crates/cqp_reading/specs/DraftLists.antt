@@ -61,6 +61,31 @@ abbrev pub is_list : Option Frame → Bool
 is_list (Some (frame.List c n)) = true
 is_list f = false
 
+-- a node is open that ends with a prefix
+abbrev pub is_body : Option Frame → Bool
+is_body (Some (frame.New at x t)) = true
+is_body (Some (frame.Qbit at x)) = true
+is_body (Some (frame.Act at)) = true
+is_body (Some (frame.In c ps)) = true
+is_body (Some (frame.Out c n)) = true
+is_body (Some (frame.Else at)) = true
+is_body f = false
+
+-- an operator is open
+abbrev pub is_operator : Option Frame → Bool
+is_operator (Some (frame.Operator xs)) = true
+is_operator f = false
+
+-- where a `+` stands whose right side is open
+abbrev pub plus_of : Option Frame → Option ℕ
+plus_of (Some (frame.Plus at)) = Some at
+plus_of f = None
+
+-- where a `|` stands whose right side is open
+abbrev pub bar_of : Option Frame → Option ℕ
+bar_of (Some (frame.Right at)) = Some at
+bar_of f = None
+
 -- a node more
 abbrev pub emitted : ℕ → Kind → DraftLists → DraftLists
 emitted at k s = record s { fragments = s.fragments ++ ends at k }

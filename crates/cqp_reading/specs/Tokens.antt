@@ -11,7 +11,6 @@ use Rattle.cqp_grammar.specs.Grammar.{gate_of_word}
 use Rattle.cqp_grammar.specs.declared.token.SymbolKind.{SymbolKind}
 use Rattle.cqp_grammar.specs.declared.token.SymbolKind.TheVariants as symbol
 use Rattle.cqp_syntax.specs.declared.op.Op.{Op}
-use Rattle.cqp_syntax.specs.declared.op.Op.TheVariants as op
 use Rattle.cqp_syntax.specs.declared.ty.Ty.TheVariants as ty
 use Rattle.cqp_program.specs.declared.program.Occ.{Occ}
 use Rattle.cqp_program.specs.declared.fragment.Kind.TheVariants as kind

@@ -1,7 +1,7 @@
-//! What a name or a number does, by what is awaited. `None` where it is refused.
+//! What a name or a number does, by what is awaited. `false` where it is refused.
 
 ghost use Rattle.std.specs.Prelude.{◌≡◌, ◌<◌, ◌^◌, [], ◌∷◌, ◌++◌, IfOk};
-ghost use Rattle.std.specs.Option.{option_map};
+ghost use Rattle.std.specs.Bool.{then_some};
 ghost use Rattle.cqp_reading.specs.DraftLists.{weight, stand};
 ghost use Rattle.cqp_reading.specs.Closing.{prefix_place};
 ghost use Rattle.cqp_reading.specs.Tokens.{listed, bound, at_name, op_place, nil_read, at_number};
@@ -11,62 +11,57 @@ use crate::awaits::Awaits;
 use crate::closing::prefix_read;
 use crate::draft::Draft;
 use crate::frame::Frame;
-use crate::standing::{atom, into, prefix_place};
+use crate::standing::{atom, go_on, into, prefix_place};
 use cqp_program::{Kind, Occ, Occs, Params};
 use std::alloc::Global;
 
 /// A name.
 pub(crate) fn at_name(
     draft: &mut Draft,
+    next: &mut Awaits,
     awaits: Awaits,
     name: Occ,
-) -> Result<Option<Awaits>, NoMemory>
+) -> Result<bool, NoMemory>
     requires few { weight draft.old < 2 ^ 31 }
-    ensures { IfOk result (λ next. option_map (λ a. stand a draft.new) next
+    ensures { IfOk result (λ may. then_some may (stand next.new draft.new)
         ≡ at_name awaits draft.old name) }
 {
     match awaits {
-        Awaits::Definitions | Awaits::PrefixWanted => Ok(Some(Awaits::Named { name })),
-        Awaits::Opened { .. } => into(draft, Frame::Group, Awaits::Named { name }),
+        Awaits::Definitions | Awaits::PrefixWanted => go_on(next, Awaits::Named { name }),
+        Awaits::Opened { .. } => into(draft, next, Frame::Group, Awaits::Named { name }),
         Awaits::ItemWanted | Awaits::AtomWanted | Awaits::OutputFirst => {
-            atom(
-                draft,
-                Awaits::AtomWanted,
-                Kind::Name { name: name.name },
-                name.at,
-            )
+            let Occ { name, at } = name;
+            atom(draft, next, Awaits::AtomWanted, Kind::Name { name }, at)
         }
-        awaits => bound(draft, awaits, name),
+        awaits => bound(draft, next, awaits, name),
     }
 }
 
 /// A name that begins something.
-fn bound(draft: &mut Draft, awaits: Awaits, name: Occ) -> Result<Option<Awaits>, NoMemory>
-    ensures { IfOk result (λ next. option_map (λ a. stand a draft.new) next
-        ≡ option_map (λ a. stand a draft.old) (bound awaits name)) }
+fn bound(draft: &Draft, next: &mut Awaits, awaits: Awaits, name: Occ) -> Result<bool, NoMemory>
+    ensures { IfOk result (λ may. then_some may next.new ≡ bound awaits name) }
 {
     match awaits {
-        Awaits::DefName => Ok(Some(Awaits::DefOpen { name })),
+        Awaits::DefName => go_on(next, Awaits::DefOpen { name }),
         Awaits::ParamsFirst => {
             let params = Params::new(draft.alloc());
-            Ok(Some(Awaits::ParamColon { params, name }))
+            go_on(next, Awaits::ParamColon { params, name })
         }
-        Awaits::ParamWanted { params } => Ok(Some(Awaits::ParamColon { params, name })),
-        Awaits::NewName { at } => Ok(Some(Awaits::NewColon { at, name })),
-        Awaits::QbitName { at } => Ok(Some(Awaits::QbitClose { at, name })),
-        Awaits::ExprWanted => Ok(Some(Awaits::ExprNamed { name })),
-        awaits => listed(draft, awaits, name),
+        Awaits::ParamWanted { params } => go_on(next, Awaits::ParamColon { params, name }),
+        Awaits::NewName { at } => go_on(next, Awaits::NewColon { at, name }),
+        Awaits::QbitName { at } => go_on(next, Awaits::QbitClose { at, name }),
+        Awaits::ExprWanted => go_on(next, Awaits::ExprNamed { name }),
+        awaits => listed(draft.alloc(), next, awaits, name),
     }
 }
 
 /// A name in a list of names.
-fn listed(draft: &mut Draft, awaits: Awaits, name: Occ) -> Result<Option<Awaits>, NoMemory>
-    ensures { IfOk result (λ next. option_map (λ a. stand a draft.new) next
-        ≡ option_map (λ a. stand a draft.old) (listed awaits name)) }
+fn listed(alloc: Global, next: &mut Awaits, awaits: Awaits, name: Occ) -> Result<bool, NoMemory>
+    ensures { IfOk result (λ may. then_some may next.new ≡ listed awaits name) }
 {
-    let next = match awaits {
+    let now = match awaits {
         Awaits::CallFirst { called } => {
-            let args = one(draft.alloc(), name)?;
+            let args = one(alloc, name)?;
             Awaits::CallAfter { called, args }
         }
         Awaits::CallWanted { called, args } => {
@@ -81,9 +76,9 @@ fn listed(draft: &mut Draft, awaits: Awaits, name: Occ) -> Result<Option<Awaits>
             let qubits = more(qubits, name)?;
             Awaits::MeasuredAfter { at, qubits }
         }
-        _ => return Ok(None),
+        _ => return Ok(false),
     };
-    Ok(Some(next))
+    go_on(next, now)
 }
 
 /// The names with one more behind them.
@@ -98,53 +93,59 @@ fn more(names: Occs, name: Occ) -> Result<Occs, NoMemory>
 /// A number.
 pub(crate) fn at_number(
     draft: &mut Draft,
+    next: &mut Awaits,
     awaits: Awaits,
     v: u32,
     at: u32,
-) -> Result<Option<Awaits>, NoMemory>
+) -> Result<bool, NoMemory>
     requires few { weight draft.old < 2 ^ 31 }
-    ensures { IfOk result (λ next. option_map (λ a. stand a draft.new) next
+    ensures { IfOk result (λ may. then_some may (stand next.new draft.new)
         ≡ at_number awaits draft.old v at) }
 {
     match awaits {
-        Awaits::OpNumber => Ok(op_place(v)),
+        Awaits::OpNumber => op_place(next, v),
         Awaits::Definitions | Awaits::PrefixWanted | Awaits::Opened { .. } => {
-            nil_read(draft, awaits, v, at)
+            nil_read(draft, next, awaits, v, at)
         }
-        awaits => atom(draft, awaits, Kind::Num { v }, at),
+        awaits => atom(draft, next, awaits, Kind::Num { v }, at),
     }
 }
 
 /// What is awaited behind the number of places of an `Op`.
-fn op_place(v: u32) -> Option<Awaits>
-    ensures { result ≡ op_place v }
+fn op_place(next: &mut Awaits, v: u32) -> Result<bool, NoMemory>
+    ensures { IfOk result (λ may. then_some may next.new ≡ op_place v) }
 {
     match v {
-        1 => Some(Awaits::OpClose { places: 1 }),
-        2 => Some(Awaits::OpClose { places: 2 }),
-        3 => Some(Awaits::OpClose { places: 3 }),
-        _ => None,
+        1 => go_on(next, Awaits::OpClose { places: 1 }),
+        2 => go_on(next, Awaits::OpClose { places: 2 }),
+        3 => go_on(next, Awaits::OpClose { places: 3 }),
+        _ => Ok(false),
     }
 }
 
 /// `0` as a process.
-fn nil_read(draft: &mut Draft, awaits: Awaits, v: u32, at: u32) -> Result<Option<Awaits>, NoMemory>
-    ensures { IfOk result (λ next. option_map (λ a. stand a draft.new) next
+fn nil_read(
+    draft: &mut Draft,
+    next: &mut Awaits,
+    awaits: Awaits,
+    v: u32,
+    at: u32,
+) -> Result<bool, NoMemory>
+    ensures { IfOk result (λ may. then_some may (stand next.new draft.new)
         ≡ nil_read v at (prefix_place awaits draft.old)) }
 {
     if v != 0 || !prefix_place(draft, awaits)? {
-        return Ok(None);
+        return Ok(false);
     }
     draft.emit(Kind::Nil, at)?;
-    let awaits = prefix_read(draft)?;
-    Ok(Some(awaits))
+    prefix_read(draft, next)
 }
 
 /// The names with this one alone.
 pub(crate) fn one(alloc: Global, name: Occ) -> Result<Occs, NoMemory>
     ensures { IfOk result (λ names. names ≡ name ∷ []) }
 {
-    let mut names = Occs::new(alloc);
+    let mut names = Occs::with_capacity(alloc, 1)?;
     names.push(name)?;
     Ok(names)
 }

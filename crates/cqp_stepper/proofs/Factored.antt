@@ -1,5 +1,5 @@
 -- The factors of the state to which the entries of a run lead.
-use Rattle.std.proofs.Common.{◌≡◌, ◌≤◌, ◌<◌, List, length, sym, subst, ◌∙◌, arith}
+use Rattle.std.proofs.Common.{◌≡◌, ◌≤◌, ◌<◌, List, sym, subst, ◌∙◌, arith}
 use Rattle.std.specs.Prelude.{Result, Ok, Err, IfOk}
 use Rattle.cqp_syntax.specs.Listing.{Listing, root}
 use Rattle.cqp_trace.specs.declared.entry.Entry.{Entry}

@@ -120,7 +120,7 @@ module _ (l : Listing) (entries : List Entry) (s : Cells) (k : IsKept l entries 
     turn_count = k.turn_count ∙ sym (ap (λ z. z.turns) r.front);
     room = k.room;
     order_room = k.order_room;
-    noted = record { stands = k.noted.stands; all = k.noted.all };
+    noted = record { right = k.noted.right; made = k.noted.made };
   }
 
   -- a number may be forgotten whose group has nothing due
@@ -142,7 +142,7 @@ module _ (l : Listing) (entries : List Entry) (s : Cells) (k : IsKept l entries 
     turn_count = k.turn_count;
     room = k.room;
     order_room = k.order_room;
-    noted = record { stands = k.noted.stands; all = k.noted.all };
+    noted = record { right = k.noted.right; made = k.noted.made };
   }
 
   -- a group whose qubits are due may be split

@@ -60,7 +60,6 @@ made_with s u n d parts groups due x = record {
     slots = x.placed.slots;
     room = x.placed.room;
     order = x.placed.order;
-    order_room = x.placed.order_room;
     count = x.placed.count;
   };
   unseen = x.unseen;
@@ -76,7 +75,6 @@ made_without s groups t n d parts x = record {
     slots = x.placed.slots;
     room = x.placed.room;
     order = x.placed.order;
-    order_room = x.placed.order_room;
     count = x.placed.count;
   };
   unseen = x.unseen;

@@ -13,6 +13,7 @@ mod Noted
 mod Opened
 mod OwnDeeds
 mod OwnKept
+mod Results
 mod Rooms
 mod Shared
 mod SlotLemmas

@@ -15,7 +15,7 @@ use Rattle.cqp_stepper.specs.declared.cells.Cells.{Cells}
 use Rattle.cqp_stepper.specs.Here.{HereLaw}
 use Rattle.cqp_stepper.specs.Kept.{IsAllSeen, IsKept}
 use Rattle.cqp_stepper.specs.Steps.{MayMeet, StandsMeet}
-use Rattle.cqp_stepper.proofs.Noted.{noted_table}
+use Rattle.cqp_stepper.proofs.Noted.{noted_part, noted_table}
 
 -- what leads on was there
 was_there : {X Y : Type 0} (f : X → Y) (o : Option X) → IsSome (option_map f o) → (x : X) × (o ≡ Some x)
@@ -35,8 +35,8 @@ module _ (l : Listing) (here_law : HereLaw) (fit : FitLaw) (entries : List Entry
       let c = told.0 in
       let table = noted_table l entries s k c told.1 seen in
       let fits = (fit _ c table i j chan).1 stands in
-      let first = k.noted.stands i _ stands.0 in
-      let second = k.noted.stands j _ stands.1 in
+      let first = noted_part l entries s k seen i _ stands.0 in
+      let second = noted_part l entries s k seen j _ stands.1 in
       let p = process_of_part l first.0 in
       let q = process_of_part l second.0 in
       let at_first : part_at i c.parts ≡ Some p = told.1.shows.stands.parts i ∙ ap (process_in l) (sym (k.parts i) ∙ first.1) in

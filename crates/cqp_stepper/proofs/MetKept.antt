@@ -1,5 +1,5 @@
 -- What is kept after a communication.
-use Rattle.std.proofs.Common.{◌≡◌, ◌≢◌, ℕ, ◌+◌, ◌<◌, ◌≤◌, List, [], ◌∷◌, ◌++◌, true, false, Bool, ◌||◌, Some, None, ◌==◌, if◌then◌else◌, length, refl, sym, ap}
+use Rattle.std.proofs.Common.{◌≡◌, ◌≢◌, ℕ, ◌+◌, ◌<◌, ◌≤◌, List, [], ◌∷◌, ◌++◌, false, Bool, ◌||◌, Some, None, ◌==◌, length, sym, ap}
 use Rattle.std.proofs.Common.{subst, arith, ◌∙◌, eq-eqb, ne_eqb}
 use mathlib.Core.Logic.{dite}
 use native.Mathlib.Decide.{ℕ_discrete}
@@ -15,7 +15,6 @@ use Rattle.cqp_trace.specs.declared.entry.Entry.{Entry}
 use Rattle.cqp_cells.specs.Examples.{by}
 use Rattle.cqp_parts.specs.declared.part.Part.{Part}
 use Rattle.cqp_parts.specs.Parts.{more_than_one, parts_after, parts_after_input, process_of_part}
-use Rattle.cqp_order.specs.Stands.{change, stand_at}
 use Rattle.cqp_machine.specs.declared.event.Event.{Event}
 use Rattle.cqp_machine.specs.After.{placed}
 use Rattle.cqp_machine.specs.Shown.{cells_of, front_of, process_in}
@@ -84,21 +83,10 @@ module _ (l : Listing) (here_law : HereLaw) (chans : ChanLaw) (meeting : Meeting
         ∙ (stays_there j (s.counts.parts + more_than_one sent) received (placed i s.counts.parts sent (part_in s.slots)) m second (omega arith)
         ∙ stays_there i s.counts.parts sent (part_in s.slots) m first below)
 
-    -- the stands of the two are forgotten
-    forgotten : (m : ℕ) → change j None (change i None (stand_at s.order.0)) m ≡ (if taken m then None else stand_at s.order.0 m)
-    forgotten m = rw (either_order j m, either_order i m) (by_tests (m == i) (m == j))
-      where
-        by_tests : (a b : Bool)
-            → (if b then None else (if a then None else stand_at s.order.0 m)) ≡ (if a || b then None else stand_at s.order.0 m)
-        by_tests true true = refl
-        by_tests true false = refl
-        by_tests false true = refl
-        by_tests false false = refl
-
     -- what is noted is right
     notes : AreNoted l t
     notes =
-        noted_after l entries s k t taken seen others_stay (λ m. x.order m ∙ forgotten m)
+        noted_after l entries s k t taken seen others_stay x.order (let more = ap (λ c. c.parts) x.counts in omega arith)
         (λ m is. ap (λ u. is_unseen u m) x.unseen
         ∙ or_left (i == m || j == m) _ (rw (either_order i m, either_order j m) is))
         (λ m least. ap (λ u. is_unseen u m) x.unseen ∙ or_right (i == m || j == m) _ (le-leb s.counts.parts m least))
@@ -127,7 +115,7 @@ module _ (l : Listing) (here_law : HereLaw) (chans : ChanLaw) (meeting : Meeting
           counted_on entries i (deed.Com j chan) s.counts.turns t.counts.turns k.measured (ap (λ c. c.turns) x.counts ∙ omega arith);
       turn_count = ap (λ c. c.turns) x.counts ∙ (let same = meets.turn_count in let count = k.turn_count in omega arith);
       room = x.room ∙ k.room;
-      order_room = x.order_room ∙ (k.order_room ∙ sym x.room);
+      order_room = ap (λ o. o.1) x.order ∙ (k.order_room ∙ sym x.room);
       noted = notes;
     }
 
@@ -146,8 +134,7 @@ met_over s u t i j given taken_in below slots order counts x = record {
       ∙ (ap (λ z. placed j (s.counts.parts + more_than_one given) taken_in (placed i s.counts.parts given (part_in z)) m) slots
       ∙ placed_twice s.slots i j s.counts.parts _ given taken_in m below));
   room = x.room ∙ (ap (λ z. length z) slots ∙ length-set s.slots i None);
-  order = λ m. x.order m ∙ ap (λ o. change j None (change i None (stand_at o.0)) m) order;
-  order_room = x.order_room ∙ ap (λ o. o.1) order;
+  order = x.order ∙ order;
   unseen = x.unseen ∙ ap (λ c. record { first = Some i; second = Some j; from = c.parts }) counts;
   counts = x.counts ∙ ap {B = Counts} (λ (c : Counts). record c { parts = c.parts + more_than_one given + more_than_one taken_in }) counts;
 }
@@ -170,8 +157,7 @@ met_over_second s u t i j given taken_in below slots order counts x = record {
       ∙ (ap (λ z. placed j (s.counts.parts + more_than_one given) taken_in (placed i s.counts.parts given (part_in z)) m) slots
       ∙ second_taken s.slots i j s.counts.parts _ given taken_in m below));
   room = x.room ∙ (ap (λ z. length z) slots ∙ length-set s.slots j None);
-  order = λ m. x.order m ∙ ap (λ o. change j None (change i None (stand_at o.0)) m) order;
-  order_room = x.order_room ∙ ap (λ o. o.1) order;
+  order = x.order ∙ order;
   unseen = x.unseen ∙ ap (λ c. record { first = Some i; second = Some j; from = c.parts }) counts;
   counts = x.counts ∙ ap {B = Counts} (λ (c : Counts). record c { parts = c.parts + more_than_one given + more_than_one taken_in }) counts;
 }

@@ -75,7 +75,7 @@ opened_kept l settled checked groups slots parts all count room many order = rec
   room = all;
   order_room = order;
   noted = record {
-    stands = λ n stand at. absurd (none_is_some {x = stand} at);
-    all = λ n part there at. le-leb 0 n (omega arith);
+    right = λ n known. let behind = le-leb 0 n (omega arith) in cc;
+    made = λ n stand at. absurd (none_is_some {x = stand} at);
   };
 }

@@ -1,5 +1,5 @@
 -- What is kept after a deed of one part.
-use Rattle.std.proofs.Common.{◌≡◌, ◌≢◌, ℕ, ◌+◌, ◌<◌, List, [], ◌∷◌, ◌++◌, true, false, ◌||◌, Some, None, ◌==◌, if◌then◌else◌, length, refl, sym, ap, subst}
+use Rattle.std.proofs.Common.{◌≡◌, ◌≢◌, ℕ, ◌+◌, ◌<◌, List, [], ◌∷◌, ◌++◌, true, false, ◌||◌, Some, None, ◌==◌, length, refl, sym, ap, subst}
 use Rattle.std.proofs.Common.{arith, ◌∙◌}
 use Rattle.std.proofs.Common.{eq-eqb, ne_eqb}
 use Rattle.std.specs.Prelude.{slice_set}
@@ -15,7 +15,6 @@ use Rattle.cqp_cells.specs.Examples.{by}
 use Rattle.cqp_cells.specs.Moves.{moved}
 use Rattle.cqp_parts.specs.declared.part.Part.{Part}
 use Rattle.cqp_parts.specs.Parts.{more_than_one, parts_after, process_of_part}
-use Rattle.cqp_order.specs.Stands.{change, stand_at}
 use Rattle.cqp_machine.specs.declared.event.Event.{Event}
 use Rattle.cqp_machine.specs.After.{groups_by, placed}
 use Rattle.cqp_machine.specs.Cells.{Cells as MachineCells}
@@ -84,8 +83,7 @@ module _ (l : Listing) (own : OwnLaw) (entries : List Entry) (s : Cells) (k : Is
       -- what is noted is right
       notes : AreNoted l t
       notes =
-          noted_after l entries s k t (λ m. m == n) seen others_stay
-          (λ m. x.placed.order m ∙ ap (λ z. if z then None else stand_at s.order.0 m) (either_order n m))
+          noted_after l entries s k t (λ m. m == n) seen others_stay x.placed.order (let more = x.placed.count in omega arith)
           (λ m is. ap (λ u. is_unseen u m) x.unseen ∙ or_left (n == m || false) _ (or_left (n == m) false (either_order n m ∙ is)))
           (λ m least. ap (λ u. is_unseen u m) x.unseen ∙ or_right (n == m || false) _ (le-leb s.counts.parts m least))
 
@@ -112,7 +110,7 @@ module _ (l : Listing) (own : OwnLaw) (entries : List Entry) (s : Cells) (k : Is
         measured = counted_on entries n d s.counts.turns t.counts.turns k.measured x.turns;
         turn_count = x.turns ∙ (ap (λ c. c + turns_by d) k.turn_count ∙ sym makes.turn_count);
         room = x.placed.room ∙ k.room;
-        order_room = x.placed.order_room ∙ (k.order_room ∙ sym x.placed.room);
+        order_room = ap (λ o. o.1) x.placed.order ∙ (k.order_room ∙ sym x.placed.room);
         noted = notes;
       }
 
@@ -126,8 +124,7 @@ made_over s u t n d parts below slots order counts x = record {
         ∙ (ap (λ c. placed n c.parts parts (part_in u.slots) m) counts
         ∙ (ap (λ z. placed n s.counts.parts parts (part_in z) m) slots ∙ placed_over s.slots n s.counts.parts parts m below));
     room = x.placed.room ∙ (ap (λ z. length z) slots ∙ length-set s.slots n None);
-    order = λ m. x.placed.order m ∙ ap (λ o. change n None (stand_at o.0) m) order;
-    order_room = x.placed.order_room ∙ ap (λ o. o.1) order;
+    order = x.placed.order ∙ order;
     count = x.placed.count ∙ ap (λ c. c.parts + more_than_one parts) counts;
   };
   unseen = x.unseen ∙ ap (λ c. record { first = Some n; second = None; from = c.parts }) counts;

@@ -1,7 +1,6 @@
 -- The factors of a run share out the qubits that were made, are few, and their levels have room.
-use Rattle.std.proofs.Common.{◌≡◌, ℕ, zero, suc, ◌+◌, ◌≤◌, ◌<◌, Bool, true, false, List, [], ◌∷◌, length, Option, Some, None, refl, sym, ap, subst, arith, ◌∙◌}
+use Rattle.std.proofs.Common.{◌≡◌, ℕ, zero, suc, ◌+◌, ◌≤◌, Bool, true, false, List, [], ◌∷◌, length, Option, Some, None, refl, sym, ap, arith, ◌∙◌}
 use Rattle.cqp_book.specs.Keys.{has}
-use Rattle.cqp_vector.specs.Group.{Group}
 use Rattle.cqp_machine.specs.Factors.{Held, level_of}
 use Rattle.cqp_machine.specs.Sums.{level_in, levels, sum_below}
 use Rattle.cqp_groups.specs.Groups.{as_cells, factors_in, groups_in, holds}

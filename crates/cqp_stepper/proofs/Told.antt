@@ -1,6 +1,6 @@
 -- What the cells of a run tell of the configuration to which its entries lead.
 use Rattle.std.proofs.Common.{◌≡◌, ℕ, zero, suc, ◌≤◌, Bool, List, [], ◌∷◌, ◌++◌, length, if◌then◌else◌, refl, sym, ap, subst, arith, ◌∙◌}
-use Rattle.std.specs.Prelude.{Result, Ok, Err, IfOk, OnErr, take}
+use Rattle.std.specs.Prelude.{Result, Ok, Err, IfOk, OnErr}
 use Rattle.cqp_syntax.specs.Listing.{Listing, root}
 use Rattle.cqp_trace.specs.declared.entry.Entry.{Entry}
 use Rattle.cqp_cells.specs.Path.{GoesOn}
@@ -70,45 +70,36 @@ weight_here l here_law entries s k law w top below norm sum same =
     let c = last l here_law entries s k in
     subst (λ es. IsProbability (root l) es w) k.shows (law l k.events c (here l here_law entries s k).shows w (sym of_groups))
 
--- a list without what was put behind it
-take_first : {X : Type 0} (xs ys : List X) → take (length xs) (xs ++ ys) ≡ xs
-take_first [] ys = refl
-take_first (x ∷ xs) ys = ap (λ zs. x ∷ zs) (take_first xs ys)
-
 -- the entries after one was tried: with it where it was made
 abbrev pub entries_after : {E : Type 0} → List Entry → Entry → Result Fit E → List Entry
-entries_after es e r = if is_made r then es ++ e ∷ [] else take (length es) (es ++ e ∷ [])
+entries_after es e r = if is_made r then es ++ e ∷ [] else es
 
--- they are what is cut so
-pub cut_is : {E : Type 0} (es more cut : List Entry) (e : Entry) (r : Result Fit E) (b : Bool) (n : ℕ) → b ≡ is_made r → more ≡ es ++ e ∷ [] → n ≡ length es
-    → cut ≡ (if b then more else take n more) → cut ≡ entries_after es e r
-cut_is es more cut e r b n made grown count is = is ∙ rw (made, grown, count) refl
+-- they are what is kept so
+pub kept_are : {E : Type 0} (es was now : List Entry) (e f : Entry) (r : Result Fit E) (b : Bool) → b ≡ is_made r → was ≡ es → f ≡ e
+    → now ≡ (if b then was ++ f ∷ [] else was) → now ≡ entries_after es e r
+kept_are es was now e f r b made same is kept = kept ∙ rw (made, same, is) refl
 
 module _ (l : Listing) (here_law : HereLaw) (back : BackLaw) (es : List Entry) (s t : Cells) (k : IsKept l es s) (e : Entry) where
   -- the cells are of them
   pub tried_kept : {E : Type 0} (r : Result Fit E) → IfOk r (λ fit. IsTriedBy l s e fit t) → OnErr r (Keeps l s t) → IsKept l (entries_after es e r) t
   tried_kept (Ok fit.Made) told err = told es k
-  tried_kept (Ok fit.NoStep) told err = subst (λ z. IsKept l z t) (sym (take_first es (e ∷ []))) (told.0 es k)
-  tried_kept (Ok fit.AtLimit) told err = subst (λ z. IsKept l z t) (sym (take_first es (e ∷ []))) (told.0 es k)
-  tried_kept (Err x) told err = subst (λ z. IsKept l z t) (sym (take_first es (e ∷ []))) (err es k)
+  tried_kept (Ok fit.NoStep) told err = told.0 es k
+  tried_kept (Ok fit.AtLimit) told err = told.0 es k
+  tried_kept (Err x) told err = err es k
 
   -- the run with the entries
   abbrev run_with : List Entry → Run
   run_with fs = record { process = l; entries = fs }
 
-  -- without the entry it is the same
-  same_without : progress_of (run_with (take (length es) (es ++ e ∷ []))) ≡ progress_of (run_with es)
-  same_without = ap (λ fs. progress_of (run_with fs)) (take_first es (e ∷ []))
-
   -- so that is what was tried
   pub tried_told : {E : Type 0} (r : Result Fit E) → IfOk r (λ fit. IsTriedBy l s e fit t)
       → IfOk r (λ fit. IsTried (progress_of (run_with es)) e fit (progress_of (run_with (entries_after es e r))))
   tried_told (Ok fit.Made) told = (longer_here l here_law es s k back t e (told es k), refl)
-  tried_told (Ok fit.NoStep) told = (told.1 es k, same_without)
-  tried_told (Ok fit.AtLimit) told = ((told.1 es k).0, (told.1 es k).1, same_without)
+  tried_told (Ok fit.NoStep) told = (told.1 es k, refl)
+  tried_told (Ok fit.AtLimit) told = ((told.1 es k).0, (told.1 es k).1, refl)
   tried_told (Err x) told = tt
 
   -- without memory nothing changed
   pub tried_refused : {E : Type 0} (r : Result Fit E) → OnErr r (progress_of (run_with (entries_after es e r)) ≡ progress_of (run_with es))
   tried_refused (Ok fit) = tt
-  tried_refused (Err x) = same_without
+  tried_refused (Err x) = refl

@@ -1,9 +1,9 @@
 -- What a run in one place keeps: the cells after a settled run of the machine.
-use Rattle.std.specs.Prelude.{◌≡◌, ◌==◌, ◌||◌, ℕ, List, [], Bool, false, true, Option}
+use Rattle.std.specs.Prelude.{◌≡◌, ◌<◌, ◌==◌, ◌||◌, ℕ, List, [], Bool, false, Option}
 use Rattle.std.specs.Prelude.{Some, None, length, nat_le}
+use Rattle.std.specs.Option.{option_map}
 use Rattle.cqp_syntax.specs.Listing.{Listing}
 use Rattle.cqp_trace.specs.declared.entry.Entry.{Entry}
-use Rattle.cqp_parts.specs.declared.part.Part.{Part}
 use Rattle.cqp_parts.specs.Parts.{process_of_part}
 use Rattle.cqp_order.specs.declared.stand.Stand.{Stand}
 use Rattle.cqp_order.specs.Stands.{stand_at}
@@ -29,13 +29,18 @@ is_that (Some m) n = m == n
 abbrev pub is_unseen : Unseen → ℕ → Bool
 is_unseen u n = is_that u.first n || is_that u.second n || nat_le u.from n
 
--- what was noted is how parts stand, and what wasn't is among the unseen
+-- how the part with the number stands, if it is there
+abbrev pub stand_of : Listing → Cells → ℕ → Option Stand
+stand_of l s n = option_map (λ p. stand_in (process_of_part l p)) (part_in s.slots n)
+
+-- so it was noted
+abbrev pub IsNoted : Listing → Cells → ℕ → Type 0
+IsNoted l s n = stand_at s.order.0 n ≡ stand_of l s n
+
+-- what was noted is right but for the unseen, and is of parts that were made
 pub record AreNoted (l : Listing) (s : Cells) : Type 0 where
-  pub stands : (n : ℕ) (stand : Stand) → stand_at s.order.0 n ≡ Some stand
-      → (part : Part) × (part_in s.slots n ≡ Some part)
-      × (stand ≡ stand_in (process_of_part l part))
-  pub all : (n : ℕ) (part : Part) → part_in s.slots n ≡ Some part → stand_at s.order.0 n ≡ None
-      → is_unseen s.unseen n ≡ true
+  pub right : (n : ℕ) → is_unseen s.unseen n ≡ false → IsNoted l s n
+  pub made : (n : ℕ) (stand : Stand) → stand_at s.order.0 n ≡ Some stand → n < s.counts.parts
 
 -- only the group with that number has qubits that are due
 abbrev pub AreDueIn : List (Option Held) → Option ℕ → Type 0
@@ -67,13 +72,9 @@ IsRunOf l s = (entries : List Entry) × IsKept l entries s
 abbrev pub Keeps : Listing → Cells → Cells → Type 0
 Keeps l s t = (entries : List Entry) → IsKept l entries s → IsKept l entries t
 
--- how the part stands was noted, if it is there
-abbrev pub IsSeen : Cells → ℕ → Type 0
-IsSeen s n = (part : Part) → part_in s.slots n ≡ Some part → stand_at s.order.0 n ≡ None → ⊥
-
--- how each part stands was noted
+-- no part that was made is among the unseen
 abbrev pub IsAllSeen : Cells → Type 0
-IsAllSeen s = (n : ℕ) → IsSeen s n
+IsAllSeen s = (n : ℕ) → n < s.counts.parts → is_unseen s.unseen n ≡ false
 
 -- nothing but what was noted is new
 pub record HasOnlyNewStand (s t : Cells) : Type 0 where

@@ -25,6 +25,12 @@ last_of p es = or_first (start_of p) (after (start_of p) es)
 abbrev pub OfRun : Listing → Cells → (List Entry → Config → Type 0) → Type 0
 OfRun l s P = (entries : List Entry) → IsKept l entries s → P entries (last_of (root l) entries)
 
+-- the entry is a reduction of the configuration to which the entries lead that the cells are of
+pub record IsReduction (l : Listing) (s : Cells) (e : Entry) : Type 0 where
+  pub entries : List Entry
+  pub kept : IsKept l entries s
+  pub fits : IsSome (next (last_of (root l) entries) e)
+
 -- no reduction is the entry
 abbrev pub NoneFits : Entry → List Entry → Config → Type 0
 NoneFits e es last = next last e ≡ None

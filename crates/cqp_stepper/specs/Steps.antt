@@ -1,6 +1,6 @@
 -- What a deed of one part makes of what a run keeps.
 use Rattle.std.specs.Prelude.{◌≡◌, ◌+◌, ◌^◌, ◌<◌, ◌≤◌, ℕ, List, [], ◌∷◌, ◌++◌, Bool}
-use Rattle.std.specs.Prelude.{Some, None, true, false, length}
+use Rattle.std.specs.Prelude.{Option, Some, None, true, false, length}
 use Rattle.std.specs.List.{list_all}
 use Rattle.cqp_book.specs.Keys.{has}
 use Rattle.cqp_syntax.specs.declared.op.Op.{Op}
@@ -10,6 +10,7 @@ use Rattle.cqp_machine.specs.Factors.{Held, places_in, state_of}
 use Rattle.cqp_machine.specs.Sums.{levels}
 use Rattle.cqp_standing.specs.Stands.{Stands}
 use Rattle.cqp_syntax.specs.declared.val.Val.{Val}
+use Rattle.cqp_syntax.specs.declared.val.Val.TheVariants as val
 use Rattle.cqp_syntax.specs.Listing.{Listing}
 use Rattle.cqp_syntax.specs.Trees.{Process}
 use Rattle.cqp_trace.specs.declared.deed.Deed.{Deed}
@@ -20,7 +21,7 @@ use Rattle.cqp_parts.specs.declared.part.Part.{Part}
 use Rattle.cqp_parts.specs.Parts.{more_than_one, parts_after, process_of_part}
 use Rattle.cqp_onward.specs.Leads.{Lead, LeadsOn}
 use Rattle.cqp_order.specs.declared.stand.Stand.TheVariants as stand
-use Rattle.cqp_order.specs.Stands.{IsChange, change, stand_at}
+use Rattle.cqp_order.specs.Stands.{stand_at}
 use Rattle.cqp_machine.specs.After.{groups_by, placed}
 use Rattle.cqp_machine.specs.Fronts.{chans_by, qubits_by, turns_by}
 use Rattle.cqp_groups.specs.Groups.{as_cells, groups_in}
@@ -43,8 +44,7 @@ pub record MayMake (l : Listing) (s : Cells) (n : ℕ) (d : Deed) : Type 0 where
 pub record IsPlaced (s t : Cells) (n : ℕ) (parts : List Part) : Type 0 where
   pub slots : (m : ℕ) → part_in t.slots m ≡ placed n s.counts.parts parts (part_in s.slots) m
   pub room : length t.slots ≡ length s.slots
-  pub order : IsChange s.order.0 t.order.0 n None
-  pub order_room : t.order.1 ≡ s.order.1
+  pub order : t.order ≡ s.order
   pub count : t.counts.parts ≡ s.counts.parts + more_than_one parts
 
 -- the deed is made by parts in the place of one: counts grew as it says, and how parts stand that
@@ -65,6 +65,18 @@ pub record CanMakeParts (l : Listing) (s : Cells) (n : ℕ) (d : Deed) : Type 0 
   pub places : length s.slots < 2 ^ 32
   pub chans : s.counts.chans + 1 < 2 ^ 32
   pub turns : s.counts.turns + 1 < 2 ^ 64
+
+-- the value that a deed gives a redex of its part, if it is of a redex
+abbrev pub result_of : Deed → Option Val
+result_of (deed.Qbit q) = None
+result_of (deed.New k) = None
+result_of deed.Act = None
+result_of (deed.Add v) = Some (val.Num v)
+result_of (deed.Pick o) = Some (val.Gate o)
+result_of (deed.Gate o qs) = Some val.Unit
+result_of (deed.Measure qs m) = Some (val.Num m)
+result_of (deed.Com to k) = None
+result_of (deed.If answer) = None
 
 -- it went on by the deed
 abbrev pub HasMadeParts : Listing → Cells → Cells → ℕ → Deed → Type 0
@@ -123,8 +135,7 @@ pub record IsMet (s t : Cells) (i j : ℕ) (sent received : List Part) : Type 0 
       ≡ placed j (s.counts.parts + more_than_one sent) received
       (placed i s.counts.parts sent (part_in s.slots)) m
   pub room : length t.slots ≡ length s.slots
-  pub order : (m : ℕ) → stand_at t.order.0 m ≡ change j None (change i None (stand_at s.order.0)) m
-  pub order_room : t.order.1 ≡ s.order.1
+  pub order : t.order ≡ s.order
   pub unseen : t.unseen ≡ record { first = Some i; second = Some j; from = s.counts.parts }
   pub counts : t.counts ≡ record s.counts {
     parts = s.counts.parts + more_than_one sent + more_than_one received;

@@ -1,7 +1,7 @@
 //! What a part that stands alone does next.
 
 ghost use Rattle.std.specs.Prelude.{◌≡◌, ◌↔◌, ◌<◌, ◌^◌, length, IfOk, IsTrue};
-ghost use Rattle.cqp_stepper.specs.Kept.{IsRunOf};
+ghost use Rattle.cqp_stepper.specs.Kept.{IsAllSeen, IsRunOf};
 ghost use Rattle.cqp_stepper.specs.Own as words;
 ghost use Rattle.cqp_stepper.specs.Own.{HasOutcomeBits, HasOwnTurn, IsDeedOfTurn, deed_by};
 ghost use Rattle.cqp_stepper.specs.Steps.{made_in};
@@ -23,7 +23,8 @@ impl Cells {
         alloc: Global,
         n: u32,
     ) -> Result<Option<Turn>, NoMemory>
-        requires { IsRunOf tables.now self.now }
+        requires run { IsRunOf tables.now self.now }
+        requires seen { IsAllSeen self.now }
         ensures { IfOk result (λ turn. HasOwnTurn tables.now self.now n turn) }
     {
         here_laws();

@@ -1,14 +1,14 @@
 //! What a run in one place keeps, but for its entries: the parts, how they stand, and the groups.
 
-ghost use Rattle.std.specs.Prelude.{◌≡◌, ◌+◌, ◌<◌, [], None, IfOk, OnOk};
-ghost use Rattle.cqp_stepper.specs.Kept.{HasOnlyNewStand, IsAllSeen, IsKept, IsRunOf, IsSeen};
-ghost use Rattle.cqp_stepper.specs.Kept.{Keeps};
+ghost use Rattle.std.specs.Prelude.{◌≡◌, ◌+◌, ◌<◌, [], None, true, IfOk, IfSome, OnOk};
+ghost use Rattle.cqp_stepper.specs.Kept.{HasOnlyNewStand, IsAllSeen, IsKept, IsNoted, IsRunOf};
+ghost use Rattle.cqp_stepper.specs.Kept.{Keeps, is_unseen, stand_of};
 
 use crate::laws::{here_laws, opening_laws};
 use crate::slots::Slots;
 use crate::tables::Tables;
 use cqp_groups::Groups;
-use cqp_order::Order;
+use cqp_order::{Order, Stand};
 use cqp_syntax::NoMemory;
 use std::alloc::Global;
 
@@ -68,21 +68,29 @@ impl Cells {
         })
     }
 
-    /// Notes how a part stands, if it is there and that wasn't noted.
+    // Notes how a part stands that is among the unseen, or that it isn't there.
     fn note(&mut self, tables: &Tables, n: u32) -> Result<(), NoMemory>
-        requires { IsRunOf tables.now self.old }
+        requires run { IsRunOf tables.now self.old }
+        requires unseen { is_unseen self.old.unseen n ≡ true }
         ensures kept { Keeps tables.now self.old self.new }
-        ensures seen { OnOk result (IsSeen self.new n) }
+        ensures noted { OnOk result (IsNoted tables.now self.new n) }
         ensures rest { HasOnlyNewStand self.old self.new }
+    {
+        let stand = self.stand_of(tables, n);
+        self.order.renew(n, stand)
+    }
+
+    // How a part stands, if it is there.
+    fn stand_of(&self, tables: &Tables, n: u32) -> Option<Stand>
+        requires { IsRunOf tables.now self.now }
+        ensures is { result ≡ stand_of tables.now self.now n }
+        ensures fits { IfSome result (λ stand. n < self.now.order.1) }
     {
         here_laws();
         tables.checked();
-        if self.order.stand(n).is_some() {
-            return Ok(());
-        }
         match self.slots.get(n) {
-            Some(part) => self.order.put(n, tables.stand(part)),
-            None => Ok(()),
+            Some(part) => Some(tables.stand(part)),
+            None => None,
         }
     }
 

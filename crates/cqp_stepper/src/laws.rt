@@ -2,7 +2,7 @@
 
 ghost use Rattle.cqp_stepper.specs.Here.{BackLaw, ChanLaw, HereLaw, RoomLaw};
 ghost use Rattle.cqp_events.specs.Laws.{JoinLaw, MeetingLaw, OpeningLaw, OwnLaw, SplitLaw};
-ghost use Rattle.cqp_fitting.specs.Laws.{FitsLaw, NoEntryLaw, OperandsLaw, StandLaw};
+ghost use Rattle.cqp_fitting.specs.Laws.{EntryLaw, FitsLaw, NoEntryLaw, OperandsLaw, StandLaw};
 ghost use Rattle.cqp_meeting.specs.Laws.{FitLaw, LeastLaw, PartnerLaw, StuckLaw};
 ghost use Rattle.cqp_meeting.specs.Laws.{AloneLaw as StandsAloneLaw, OwnLaw as FitsAloneLaw};
 ghost use Rattle.cqp_telling.specs.Laws.{GroupLimitLaw, LeftLaw, OddsLaw, OutcomeLaw, WeightLaw};
@@ -116,6 +116,7 @@ pub(crate) fn own_laws()
     ensures own { FitsAloneLaw }
     ensures moves { MovesLaw }
     ensures none { NoEntryLaw }
+    ensures entries { EntryLaw }
     ensures some { SomeQubitsLaw }
 {
     stand_laws();

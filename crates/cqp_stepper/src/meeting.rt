@@ -35,8 +35,6 @@ impl Cells {
         ensures groups { HasGroupsOf self.old self.new }
     {
         let next = self.counts.parts;
-        self.order.take(from);
-        self.order.take(to);
         self.unseen = Unseen {
             first: Some(from),
             second: Some(to),

@@ -6,7 +6,7 @@ ghost use Rattle.cqp_engine.specs.declared.engine.Upcoming.TheVariants as upcomi
 ghost use Rattle.cqp_cells.specs.Examples.{by};
 ghost use Rattle.cqp_machine.specs.Sums.{sum_below};
 ghost use Rattle.cqp_order.specs.Stands.{stand_at};
-ghost use Rattle.cqp_stepper.specs.Kept.{IsRunOf};
+ghost use Rattle.cqp_stepper.specs.Kept.{IsAllSeen, IsRunOf};
 ghost use Rattle.cqp_stepper.specs.Readings.{IsLeastEntry, IsLeastPartBy, IsNextOf, entry_of};
 ghost use Rattle.cqp_stepper.specs.Readings.{upcoming_by};
 ghost use Rattle.cqp_stepper.specs.Slots.{part_in};
@@ -47,6 +47,7 @@ impl Cells {
         part: u32,
     ) -> Result<Option<Upcoming>, NoMemory>
         requires run { IsRunOf tables.now self.now }
+        requires seen { IsAllSeen self.now }
         requires few { length self.now.groups < 2 ^ 32 }
         ensures { IfOk result (λ next. IsNextOf tables.now self.now part next) }
     {

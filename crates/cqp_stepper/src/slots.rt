@@ -1,16 +1,18 @@
 //! The parts of a run, by number. The places are made once, so that parts come and go without
 //! memory. Contracts see a list with a place for each number below its length, the room.
 
-ghost use Rattle.std.specs.Prelude.{◌≡◌, ◌+◌, ◌^◌, ◌<◌, ◌≤◌, ℕ, IfOk, None, length, slice_set};
+ghost use Rattle.std.specs.Prelude.{◌≡◌, ◌+◌, ◌^◌, ◌<◌, ◌≤◌, ℕ, IfOk, None, OnErr, OnOk, Some};
+ghost use Rattle.std.specs.Prelude.{length, slice_set};
 ghost use Rattle.std.specs.Option.{option_map};
 ghost use Rattle.cqp_machine.specs.After.{placed, placed_from};
-ghost use Rattle.cqp_parts.specs.Parts.{more_than_one};
+ghost use Rattle.cqp_parts.specs.declared.part.Part.{Part as Seen};
+ghost use Rattle.cqp_parts.specs.Parts.{more_than_one, with_result_of};
 ghost use Rattle.cqp_stepper.specs.Slots.{part_in};
 
 use cqp_onward::Parts;
 use cqp_parts::Part;
-use cqp_syntax::NoMemory;
-use std::alloc::Global;
+use cqp_syntax::{NoMemory, Val};
+use std::alloc::{AllocError, Global};
 use std::marker::Model;
 use std::mem;
 
@@ -64,6 +66,19 @@ impl Slots {
         ensures { self.new ≡ slice_set self.old n part }
     {
         self.places[n as usize] = part;
+    }
+
+    /// One value more for the redexes of a part that is there.
+    pub(crate) fn add_result(&mut self, n: u32, val: Val) -> Result<(), NoMemory>
+        requires { n < length self.old }
+        ensures done { OnOk result ((part : Seen) → part_in self.old n ≡ Some part
+            → self.new ≡ slice_set self.old n (Some (with_result_of part val))) }
+        ensures err { OnErr result (self.new ≡ self.old) }
+    {
+        match &mut self.places[n as usize] {
+            Some(part) => part.vals.push(val),
+            None => Err(AllocError),
+        }
     }
 
     /// In the place of part n: the first has its number, the others those from `next` on, of which

@@ -1,6 +1,7 @@
 //! The run of a checked process in one place.
 
-ghost use Rattle.std.specs.Prelude.{◌≡◌, if◌then◌else◌, take, IfOk, Some};
+ghost use Rattle.std.specs.Prelude.{◌≡◌, ◌<◌, [], ◌∷◌, ◌++◌, if◌then◌else◌, IfOk, Some};
+ghost use Rattle.std.specs.Vec.{vec_capacity, vec_len};
 ghost use Rattle.cqp_stepper.specs.Runs as runs;
 ghost use Rattle.cqp_stepper.specs.Runs.{opened, progress_of};
 
@@ -21,7 +22,7 @@ use std::marker::Model;
 pub struct Stepper<'p> {
     pub(crate) tables: Tables<'p>,
     pub(crate) cells: Cells,
-    entries: Vec<Entry>,
+    pub(crate) entries: Vec<Entry>,
 }
 
 impl<'p> Model for Stepper<'p> {
@@ -88,10 +89,18 @@ impl<'p> Engine for Stepper<'p> {
 
     fn step(&mut self, alloc: Global, entry: &Entry) -> Result<Fit, NoMemory> {
         reading_laws();
-        let count = self.entries.as_slice().len();
-        self.entries.push(copied(entry)?)?;
+        let copy = copied(entry)?;
+        self.entries.reserve(1)?;
         let tried = self.cells.try_entry(&self.tables, alloc, entry);
-        cut_unless(&mut self.entries, count, is_made(&tried));
+        keep_if(&mut self.entries, copy, is_made(&tried));
+        tried
+    }
+
+    fn make(&mut self, alloc: Global, entry: Entry) -> Result<Fit, NoMemory> {
+        reading_laws();
+        self.entries.reserve(1)?;
+        let tried = self.cells.make_entry(&self.tables, alloc, &entry);
+        keep_if(&mut self.entries, entry, is_made(&tried));
         tried
     }
 
@@ -133,13 +142,14 @@ fn is_made(tried: &Result<Fit, NoMemory>) -> bool
     }
 }
 
-// The first entries alone, unless all stay.
-fn cut_unless(entries: &mut Vec<Entry>, count: usize, stay: bool)
+// One entry more, where it was made. There is room for it.
+fn keep_if(entries: &mut Vec<Entry>, entry: Entry, made: bool)
+    requires { vec_len entries.old < vec_capacity entries.old }
     ensures { entries.new.items
-        ≡ (if stay then entries.old.items else take count entries.old.items) }
+        ≡ (if made then entries.old.items ++ entry ∷ [] else entries.old.items) }
 {
-    if !stay {
-        entries.truncate(count);
+    if made {
+        entries.push_reserved(entry);
     }
 }
 

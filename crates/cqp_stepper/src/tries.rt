@@ -6,7 +6,7 @@ ghost use Rattle.cqp_meeting.specs.Meetings.{is_communication};
 ghost use Rattle.cqp_trace.specs.declared.deed.Deed.TheVariants as deeds;
 ghost use Rattle.cqp_vector.specs.Group.{factors_left_out};
 ghost use Rattle.cqp_stepper.specs.Kept.{IsAllSeen, IsRunOf, Keeps};
-ghost use Rattle.cqp_stepper.specs.Last.{IsTriedBy};
+ghost use Rattle.cqp_stepper.specs.Last.{IsReduction, IsTriedBy};
 ghost use Rattle.cqp_stepper.specs.Own.{HasReachedLimit, HasSomeQubits};
 ghost use Rattle.cqp_stepper.specs.Steps.{MayMake};
 
@@ -38,6 +38,24 @@ impl Cells {
         match &entry.deed {
             Deed::Com { to, chan } => self.try_meeting(tables, alloc, entry.part, *to, *chan),
             deed => self.try_own(tables, alloc, entry.part, deed),
+        }
+    }
+
+    /// Tries an entry that is a reduction.
+    pub(crate) fn make_entry(
+        &mut self,
+        tables: &Tables,
+        alloc: Global,
+        entry: &Entry,
+    ) -> Result<Fit, NoMemory>
+        requires { IsReduction tables.now self.old entry.now }
+        ensures fit { IfOk result (λ fit. IsTriedBy tables.now self.old entry.now fit self.new) }
+        ensures err { OnErr result (Keeps tables.now self.old self.new) }
+    {
+        self.settle(tables)?;
+        match &entry.deed {
+            Deed::Com { to, chan } => self.try_meeting(tables, alloc, entry.part, *to, *chan),
+            deed => self.make_own(tables, alloc, entry.part, deed),
         }
     }
 
@@ -89,6 +107,27 @@ impl Cells {
             return self.try_deed(tables, alloc, n, deed);
         }
         Ok(Fit::NoStep)
+    }
+
+    // Tries a deed of one part that is a reduction.
+    fn make_own(
+        &mut self,
+        tables: &Tables,
+        alloc: Global,
+        n: u32,
+        deed: &Deed,
+    ) -> Result<Fit, NoMemory>
+        requires reduction { IsReduction tables.now self.old (by n deed.now) }
+        requires seen { IsAllSeen self.old }
+        requires own { is_communication deed.now ≡ false }
+        ensures fit { IfOk result (λ fit. IsTriedBy tables.now self.old (by n deed.now) fit
+            self.new) }
+        ensures err { OnErr result (Keeps tables.now self.old self.new) }
+    {
+        try_laws();
+        own_laws();
+        tables.checked();
+        self.try_deed(tables, alloc, n, deed)
     }
 
     // Tries a deed by which its part's process moves.

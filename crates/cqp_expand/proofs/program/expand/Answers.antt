@@ -1,5 +1,4 @@
-use Rattle.std.proofs.Common.{ap, subst, sym, arith, length}
-use Rattle.cqp_expand.specs.Copies.{IsSmall}
+use Rattle.std.proofs.Common.{ap, arith, length}
 use Rattle.cqp_expand.specs.Expansion.{expansion}
 use Rattle.cqp_expand.proofs.Expanded.{faultless, fault_ends, some_outlines, last_count, is_small, listed, sound, expanded, small_count, large_count}
 use Rattle.cqp_expand.proofs.program.expand.Goals as goal
@@ -27,24 +26,14 @@ returns-then-outlines-main-gt-MOST-clause-err c = λ t h.
     c.as_slice-outlines.ensures.value in
     record { faultless = faultless t c.in_ok-scanned.scanned scan c.in_default.is; large = large_count _ _ count c.if-outlines-main-gt-MOST.true }
 
-pub copied-requires-clause-last : goal.copied-requires-clause-last
-copied-requires-clause-last c =
-    let tree = c.in_ok-scanned.ensures.listed in
-    let some = some_outlines tree.0 c.in_ok-scanned.scanned (c.in_ok-scanned.ensures.scan tree.0 tree.1) c.in_default.is in
-    omega (arith, some, ap length c.as_slice-outlines.ensures.value)
-
-pub copied-requires-clause-known : goal.copied-requires-clause-known
-copied-requires-clause-known c =
+pub spread-requires : goal.spread-requires
+spread-requires c =
     let tree = c.in_ok-scanned.ensures.listed in
     let scan = c.in_ok-scanned.ensures.scan tree.0 tree.1 in
     let count = last_count tree.0 c.in_ok-scanned.scanned scan c.in_default.is c.as_slice-outlines.result.now c.index-outlines-main.result
     c.as_slice-outlines.ensures.value in
-    let small = small_count _ _ count c.if-outlines-main-gt-MOST.false in (
-      tree.0,
-      c.in_ok-scanned.scanned.types.types.items,
-      subst (IsSmall tree.0 c.in_ok-scanned.scanned.types.types.items) (sym c.as_slice-outlines.ensures.value)
-          (is_small tree.0 c.in_ok-scanned.scanned scan c.in_default.is small),
-    )
+    let small = small_count _ _ count c.if-outlines-main-gt-MOST.false in
+    (tree.0, c.in_ok-scanned.scanned.types.types.items, is_small tree.0 c.in_ok-scanned.scanned scan c.in_default.is small)
 
 pub make-requires-clause-listed : goal.make-requires-clause-listed
 make-requires-clause-listed c =
@@ -54,8 +43,7 @@ make-requires-clause-listed c =
     let count = last_count tree.0 c.in_ok-scanned.scanned scan c.in_default.is c.as_slice-outlines.result.now c.index-outlines-main.result
     c.as_slice-outlines.ensures.value in
     let small = small_count _ _ count c.if-outlines-main-gt-MOST.false in
-    let copy = c.in_ok-copy.ensures tree.0 types (subst (IsSmall tree.0 types) (sym c.as_slice-outlines.ensures.value)
-    (is_small tree.0 c.in_ok-scanned.scanned scan c.in_default.is small)) in
+    let copy = c.in_ok-copy.ensures tree.0 types (is_small tree.0 c.in_ok-scanned.scanned scan c.in_default.is small) in
     let faults = faultless tree.0 c.in_ok-scanned.scanned scan c.in_default.is in
     (expansion tree.0, rw (c.from_vec-types.ensures, c.into_types.ensures) (listed tree.0 types _ _ _ faults copy))
 
@@ -67,8 +55,7 @@ make-requires-clause-sound c =
     let count = last_count tree.0 c.in_ok-scanned.scanned scan c.in_default.is c.as_slice-outlines.result.now c.index-outlines-main.result
     c.as_slice-outlines.ensures.value in
     let small = small_count _ _ count c.if-outlines-main-gt-MOST.false in
-    let copy = c.in_ok-copy.ensures tree.0 types (subst (IsSmall tree.0 types) (sym c.as_slice-outlines.ensures.value)
-    (is_small tree.0 c.in_ok-scanned.scanned scan c.in_default.is small)) in
+    let copy = c.in_ok-copy.ensures tree.0 types (is_small tree.0 c.in_ok-scanned.scanned scan c.in_default.is small) in
     let faults = faultless tree.0 c.in_ok-scanned.scanned scan c.in_default.is in
     rw (c.from_vec-types.ensures, c.into_types.ensures) (sound tree.0 types _ _ _ faults copy scan.table tree.1.printable small)
 
@@ -79,7 +66,6 @@ returns-clause-ok c = λ t h.
     let count = last_count t c.in_ok-scanned.scanned scan c.in_default.is c.as_slice-outlines.result.now c.index-outlines-main.result
     c.as_slice-outlines.ensures.value in
     let small = small_count _ _ count c.if-outlines-main-gt-MOST.false in
-    let copy = c.in_ok-copy.ensures t types (subst (IsSmall t types) (sym c.as_slice-outlines.ensures.value)
-    (is_small t c.in_ok-scanned.scanned scan c.in_default.is small)) in
+    let copy = c.in_ok-copy.ensures t types (is_small t c.in_ok-scanned.scanned scan c.in_default.is small) in
     let faults = faultless t c.in_ok-scanned.scanned scan c.in_default.is in
     rw (c.make.ensures.value, c.from_vec-types.ensures, c.into_types.ensures) (expanded t types _ _ _ faults copy small)

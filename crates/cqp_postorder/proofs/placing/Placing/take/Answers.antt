@@ -1,5 +1,5 @@
-use Rattle.std.proofs.Common.{◌+◌, arith}
-use Rattle.cqp_postorder.specs.Subtrees.{nothing}
+use Rattle.std.proofs.Common.{◌+◌, arith, refl}
+use Rattle.cqp_postorder.specs.Subtrees.{nothing, pending_numbers}
 use Rattle.cqp_postorder.proofs.Filling.{spread}
 use Rattle.cqp_postorder.proofs.Placed.{one_left, taken, ends_within, parts_last, node_next}
 use Rattle.cqp_postorder.proofs.placing.Placing.take.Goals as goal
@@ -36,4 +36,10 @@ returns c = λ t left x q counted.
     let numbered = rw c.unwrap-n.ensures at c.pop-2.ensures.items in
     let p = taken t left x _ _ _ _ _ _ _ _ sized numbered q in
     let last = parts_last _ _ _ _ _ _ _ _ _ p _ _ c.as_slice.ensures.value counted in
-    node_next _ _ _ _ _ _ _ _ _ p _ (c.in_ok-find_parts.ensures _ last)
+    let found = pending_numbers (spread nothing (c.unwrap-n.result + 1) p.node.parts) in
+    record {
+      found = found;
+      numbers = c.pop-2.new.self.items;
+      are = c.in_ok-find_parts.ensures _ last;
+      node = node_next _ _ _ _ _ _ _ _ _ p found refl;
+    }

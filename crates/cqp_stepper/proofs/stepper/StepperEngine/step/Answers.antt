@@ -1,9 +1,9 @@
-use Rattle.std.proofs.Common.{◌≡◌, ◌++◌, ◌∷◌, [], length, ap, subst, sym, ◌∙◌}
+use Rattle.std.proofs.Common.{subst, sym}
 use Rattle.std.specs.Prelude.{IfOk}
 use Rattle.cqp_engine.specs.Progress.{IsTried}
 use Rattle.cqp_stepper.specs.Kept.{IsKept}
 use Rattle.cqp_stepper.specs.Runs.{Run, progress_of}
-use Rattle.cqp_stepper.proofs.Told.{cut_is, tried_kept, tried_told}
+use Rattle.cqp_stepper.proofs.Told.{kept_are, tried_kept, tried_told}
 use Rattle.cqp_stepper.proofs.stepper.StepperEngine.step.Goals as goal
 
 pub invariant_of-self-2 : goal.invariant_of-self-2
@@ -13,10 +13,9 @@ invariant_of-self-2 c =
     let r = c.try_entry-tried.result in
     let es = s.entries.items in
     let laws = c.reading_laws.ensures in
-    let more : c.push.new.self.items ≡ es ++ e ∷ [] = c.in_ok-push.ensures.items ∙ ap (λ x. es ++ x ∷ []) c.in_ok-copied.ensures in
-    let cut = cut_is es _ c.cut_unless.new.entries.items e r c.is_made.result _ c.is_made.ensures more
-    (ap length c.as_slice-count.ensures.value) c.cut_unless.ensures in
-    subst (λ fs. IsKept s.tables fs c.try_entry-tried.new.self) (sym cut)
+    let kept = kept_are es c.reserve.new.self.items c.keep_if.new.entries.items e c.in_ok-copy.copy r c.is_made.result c.is_made.ensures
+    c.reserve.ensures.items c.in_ok-copy.ensures c.keep_if.ensures in
+    subst (λ fs. IsKept s.tables fs c.try_entry-tried.new.self) (sym kept)
     (tried_kept s.tables laws.here laws.back es s.cells c.try_entry-tried.new.self c.self.invariant e r c.try_entry-tried.ensures.fit
     c.try_entry-tried.ensures.err)
 
@@ -27,12 +26,11 @@ returns-clause-fit c =
     let r = c.try_entry-tried.result in
     let es = s.entries.items in
     let laws = c.reading_laws.ensures in
-    let more : c.push.new.self.items ≡ es ++ e ∷ [] = c.in_ok-push.ensures.items ∙ ap (λ x. es ++ x ∷ []) c.in_ok-copied.ensures in
-    let cut = cut_is es _ c.cut_unless.new.entries.items e r c.is_made.result _ c.is_made.ensures more
-    (ap length c.as_slice-count.ensures.value) c.cut_unless.ensures in
-    let after : Run = record { process = s.tables; entries = c.cut_unless.new.entries.items } in
+    let kept = kept_are es c.reserve.new.self.items c.keep_if.new.entries.items e c.in_ok-copy.copy r c.is_made.result c.is_made.ensures
+    c.reserve.ensures.items c.in_ok-copy.ensures c.keep_if.ensures in
+    let after : Run = record { process = s.tables; entries = c.keep_if.new.entries.items } in
     subst (λ b. IfOk r (λ fit. IsTried (progress_of b) e fit (progress_of after))) c.self.view_is
     (subst (λ fs. IfOk r (λ fit. IsTried (progress_of (record { process = s.tables; entries = es })) e fit (progress_of
     (record { process = s.tables; entries = fs }))))
-    (sym cut)
+    (sym kept)
     (tried_told s.tables laws.here laws.back es s.cells c.try_entry-tried.new.self c.self.invariant e r c.try_entry-tried.ensures.fit))
