@@ -1,6 +1,6 @@
 -- Laws of expansion: where a program has no fault, it stands for a closed process whose binders are
 -- numbered from 0 in preorder, and each of whose nodes has an offset.
-use Rattle.std.proofs.Common.{◌≡◌, ℕ, List, [], ◌∷◌, length, true, refl, sym, ◌∙◌}
+use Rattle.std.proofs.Common.{◌≡◌, List, [], ◌∷◌, length, refl, sym, ◌∙◌}
 use Rattle.std.proofs.lemmas.List.{length-map}
 use Rattle.std.specs.List.{range_with_len}
 use Rattle.cqp_syntax.specs.Listing.{Listing}

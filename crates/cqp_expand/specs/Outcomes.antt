@@ -1,5 +1,5 @@
 -- What `expand` answers.
-use Rattle.std.specs.Prelude.{◌≡◌, ℕ, ◌<◌, ◌≤◌, [], map}
+use Rattle.std.specs.Prelude.{◌≡◌, ℕ, ◌<◌, ◌≤◌, []}
 use Rattle.cqp_syntax.specs.Listing.{Listing, IsListing, node_count}
 use Rattle.cqp_grammar.specs.Trees.{ProgramTree}
 use Rattle.cqp_expand.specs.declared.fault.ScopeFault.{ScopeFault}

@@ -52,7 +52,7 @@ impl<'a> Locals<'a> {
             → OnOk result (Enters self.old self.new ps (repeats [] ps)) }
     {
         let depth = self.scope.depth();
-        let mut numbers = Names::new(self.alloc);
+        let mut numbers = Names::with_capacity(self.alloc, params.len())?;
         for own in params {
             self.repeated(depth, own);
             numbers.push(self.enter(own.name.as_slice(), &own.ty)?)?;

@@ -81,7 +81,7 @@ impl<'a> Locals<'a> {
         ensures faults { OnOk result (self.new
             ≡ after self.old (names_faults (scope_in self.old) (map told names.now))) }
     {
-        let mut numbers = Names::new(self.alloc);
+        let mut numbers = Names::with_capacity(self.alloc, names.len())?;
         for name in names {
             numbers.push(self.name(name))?;
         }

@@ -33,7 +33,7 @@ impl<'a> Locals<'a> {
     {
         let nodes = tree.nodes.as_slice();
         let offsets = tree.at.as_slice();
-        let mut members = Vec::new(self.alloc);
+        let mut members = Vec::with_capacity(self.alloc, nodes.len())?;
         let mut depths = vec![in self.alloc; self.scope.depth()]?;
         let mut at = 0;
         while let Some(depth) = depths.pop() {

@@ -39,7 +39,7 @@ impl<'a> Renumbering<'a> {
         requires { AllByRecursion (HasName self) names.now }
         ensures { IfOk result (λ ns. ns ≡ map (name_at self.entry) names.now) }
     {
-        let mut numbers = Names::new(alloc);
+        let mut numbers = Names::with_capacity(alloc, names.as_slice().len())?;
         for name in names.as_slice() {
             numbers.push(self.name(*name))?;
         }
@@ -50,7 +50,7 @@ impl<'a> Renumbering<'a> {
         requires { AllByRecursion (HasNode self) nodes.now }
         ensures { IfOk result (λ ns. ns ≡ map (node_at self.entry) nodes.now) }
     {
-        let mut numbers = Names::new(alloc);
+        let mut numbers = Names::with_capacity(alloc, nodes.as_slice().len())?;
         for node in nodes.as_slice() {
             numbers.push(self.at(*node))?;
         }

@@ -79,7 +79,7 @@ fn starts(alloc: Global, members: &[Member], outlines: &[Outline]) -> Result<Vec
     ensures starts { IfOk result (λ v. (k : ℕ) → k ≤ length members.now
         → slice_index v.items k ≡ sum_by (member_length outlines.now) (take k members.now)) }
 {
-    let mut starts = Vec::new(alloc);
+    let mut starts = Vec::with_capacity(alloc, members.len())?;
     let mut next = 0;
     for member in members {
         starts.push(next)?;

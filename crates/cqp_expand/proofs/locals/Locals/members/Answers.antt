@@ -13,7 +13,7 @@ pub loop-depth-init : goal.loop-depth-init
 loop-depth-init c = λ p ds e k.
     let nodes = c.as_slice-nodes.ensures ∙ ap (λ (x : Tree). x.nodes) e in
     let offsets = c.as_slice-offsets.ensures ∙ ap (λ (x : Tree). x.at) e in
-    rw (c.in_ok-depths.ensures.items, c.depth.ensures, nodes, offsets, c.new-members.ensures.items) (left_first
+    rw (c.in_ok-depths.ensures.items, c.depth.ensures, nodes, offsets, c.in_ok-members.ensures.items) (left_first
     (signatures ds) p c.args.self.now c.requires.local)
 
 pub offset_bounds-nodes-at : goal.offset_bounds-nodes-at
