@@ -21,7 +21,7 @@ use Rattle.cqp_expand.specs.Outlines.{IsOutline}
 use Rattle.cqp_expand.proofs.Templates.{AreTemplates}
 use Rattle.cqp_expand.proofs.Numbering.{later_name}
 use Rattle.cqp_expand.proofs.Closing as closing
-use Rattle.cqp_expand.proofs.Closing.{Alike, alike_below}
+use Rattle.cqp_expand.proofs.Closing.{Alike}
 use Rattle.cqp_expand.proofs.Environments.{Renames, Shifts, process_copied}
 use Rattle.cqp_expand.proofs.Found.{texts, Among}
 use Rattle.cqp_expand.proofs.Lengths.{length-members_in, length-process_offsets}

@@ -126,11 +126,6 @@ module _ (x : List ℕ) where
           let less : n ≤ length bs = grind (arith, nat_tests) in
           by (has_text x b.bound) refl less (later less)
 
--- what is kept of a text that is set
-pub depth_set : (t : Bool) (n : ℕ) (o : Option ℕ) → depth_or_none (if t then Some n else o) ≡ (if t then n else depth_or_none o)
-depth_set true n o = refl
-depth_set false n o = refl
-
 -- equal texts
 texts_equal : (x y : List ℕ) → bytes_eq x y ≡ true → x ≡ y
 texts_equal x y e = (bytes_eq-Decides x y).0 e
@@ -170,19 +165,3 @@ last_known n xs b k e =
     some : (o : Option ℕ) (n : ℕ) → depth_or_none o ≡ n + 1 → IsSome o
     some None n h = absurd (omega (arith, h))
     some (Some m) n h = refl
-
--- where the depth of a text is set that it has, all depths stay
-pub nested_same : (n m : Nest) (x : List ℕ) (depth : ℕ) → IsNested n → m.binders ≡ n.binders → depth ≡ depth_in x (reverse n.binders.items)
-    → Sets x depth n.depths m.depths → IsNested m
-nested_same n m x depth k same e s =
-    let all = ap (λ v. reverse v.items) (sym same) in
-    record {
-      linked = subst AreLinked all k.linked;
-      depths = λ y. s y ∙ by y (bytes_eq x y.now) refl (k.depths y) ∙ ap (depth_in y.now) all;
-    }
-  where
-    by : (y : Bor (List ℕ)) (t : Bool) → bytes_eq x y.now ≡ t
-        → depth_or_none (get_by (λ z. bytes_eq y.now z.now) n.depths) ≡ depth_in y.now (reverse n.binders.items)
-        → (if bytes_eq x y.now then depth else depth_or_none (get_by (λ z. bytes_eq y.now z.now) n.depths)) ≡ depth_in y.now (reverse n.binders.items)
-    by y true g old = rw g (e ∙ ap (λ z. depth_in z (reverse n.binders.items)) (texts_equal x y.now g))
-    by y false g old = rw g old

@@ -1,7 +1,7 @@
 -- What is left of a copy: for each copy of a definition that is not complete a task, the innermost
 -- first.
-use Rattle.std.proofs.Common.{◌≡◌, ℕ, suc, zero, ◌+◌, ◌<◌, ◌≤◌, List, [], ◌∷◌, ◌++◌, map, length, drop, sum_by, slice_index, slice_get, Some, refl, ap, ap₂}
-use Rattle.std.proofs.Common.{sym, ◌∙◌, subst, arith}
+use Rattle.std.proofs.Common.{◌≡◌, ℕ, suc, zero, ◌+◌, ◌<◌, ◌≤◌, List, [], ◌∷◌, ◌++◌, map, length, drop, sum_by, slice_index, slice_get, Some, ap}
+use Rattle.std.proofs.Common.{◌∙◌, subst, arith}
 use Rattle.std.specs.List.{AllByRecursion}
 use Rattle.cqp_syntax.specs.declared.node.Node.{Node}
 use Rattle.cqp_syntax.specs.declared.ty.Ty.{Ty}

@@ -5,7 +5,7 @@ use Rattle.cqp_syntax.specs.declared.val.Val.TheVariants as val
 use Rattle.cqp_syntax.specs.TypeTrees.{qbit_type, int_type}
 use Rattle.cqp_syntax.specs.Trees as proc
 use Rattle.cqp_grammar.specs.Trees as tree
-use Rattle.cqp_grammar.specs.Trees.{Occurrence, occurrence, Parameter, DefinitionTree, ProgramTree}
+use Rattle.cqp_grammar.specs.Trees.{occurrence, DefinitionTree, ProgramTree}
 use Rattle.cqp_grammar.specs.Trees.{ProcessTree}
 
 -- a program without definitions

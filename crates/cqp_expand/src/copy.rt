@@ -1,7 +1,7 @@
 //! The process of a program, copied from its outlines member by member. A call begins a copy of its
 //! definition, so nothing recurses.
 
-ghost use Rattle.std.specs.Prelude.{◌≡◌, ◌∷◌, ◌++◌, [], ℕ, ◌+◌, ◌<◌, ◌≤◌, ◌^◌, length, map};
+ghost use Rattle.std.specs.Prelude.{◌≡◌, ◌++◌, [], ◌+◌, ◌<◌, ◌≤◌, ◌^◌, length, map};
 ghost use Rattle.std.specs.Prelude.{slice_index};
 ghost use Rattle.std.specs.Prelude.{List, slice_get, Some, OnOk, IfOk};
 ghost use Rattle.std.specs.List.{AllByRecursion};

@@ -1,7 +1,7 @@
 //! The members of a body. Its nodes are read once, in their order; for each that is still to come a
 //! stack keeps how many binders stand around it, so nothing recurses.
 
-ghost use Rattle.std.specs.Prelude.{◌≡◌, ◌++◌, List, length, replicate, take, IfOk, OnOk};
+ghost use Rattle.std.specs.Prelude.{◌≡◌, ◌++◌, List, length, replicate, IfOk, OnOk};
 ghost use Rattle.cqp_grammar.specs.Trees.{DefinitionTree, ProcessTree};
 ghost use Rattle.cqp_program.specs.Listing.{tree_lists};
 ghost use Rattle.cqp_expand.specs.Faults.{process_faults};

@@ -1,7 +1,7 @@
 //! Binders that hide one another. The innermost of a name is found by its text, whatever the depth.
 
 ghost use Rattle.std.specs.Prelude.{◌≡◌, ◌<◌, ◌≤◌, ◌∷◌, ◌++◌, [], length, take, drop, reverse};
-ghost use Rattle.std.specs.Prelude.{find, IfOk, OnOk, IsSome, bytes_eq};
+ghost use Rattle.std.specs.Prelude.{◌+◌, find, IfOk, OnOk, OnErr, IsSome, bytes_eq};
 ghost use Rattle.std.specs.List.{list_any};
 ghost use Rattle.indexmap.specs.IndexMap.{get_by};
 ghost use Rattle.cqp_expand.specs.declared.nest.NestedBinder.{NestedBinder};
@@ -86,23 +86,26 @@ impl<'a> Nest<'a> {
         ensures bound { OnOk result (bounds self.new.binders.items
             ≡ bounds self.old.binders.items ++ bound.entry ∷ []) }
     {
-        let outer = self.key(bound.text)?;
-        self.binders.push(NestedBinder { bound, outer })?;
-        set(&mut self.depths, bound.text, self.binders.len());
+        self.binders.reserve(1)?;
+        let outer = self.deepen(bound.text)?;
+        self.binders.push_reserved(NestedBinder { bound, outer });
         Ok(())
     }
 
-    /// Makes the text a key. Answers the depth of the innermost binder of that name.
-    fn key(&mut self, text: &'a [u8]) -> Result<usize, NoMemory>
+    /// Sets the depth of a text to that of the binder that comes next. Answers the depth of the
+    /// innermost binder of that name so far.
+    fn deepen(&mut self, text: &'a [u8]) -> Result<usize, NoMemory>
         requires { IsNested self.old }
-        ensures nested { IsNested self.new }
-        ensures binders { self.new.binders ≡ self.old.binders }
+        ensures sets { OnOk result (Sets text.now (length self.old.binders.items + 1)
+            self.old.depths self.new.depths) }
         ensures depth { IfOk result (λ n. n ≡ depth_in text.now (reverse self.old.binders.items)) }
-        ensures key { OnOk result (IsSome (get_by (λ k. bytes_eq text.now k.now) self.new.depths)) }
+        ensures binders { self.new.binders ≡ self.old.binders }
+        ensures err { OnErr result (IsNested self.new) }
     {
-        let found = self.depth_of(text);
-        match self.depths.insert(text, found) {
-            Ok(_) => Ok(found),
+        let next = self.binders.len() + 1;
+        match self.depths.insert(text, next) {
+            Ok(Some(outer)) => Ok(outer),
+            Ok(None) => Ok(0),
             Err(e) => Err(NoMemory::from(e)),
         }
     }

@@ -1,6 +1,6 @@
 //! Where a copy of a definition stands in the process: what its names and its nodes are numbered.
 
-ghost use Rattle.std.specs.Prelude.{◌≡◌, ◌<◌, ◌^◌, length, map, IfOk};
+ghost use Rattle.std.specs.Prelude.{◌≡◌, ◌<◌, map, IfOk};
 ghost use Rattle.std.specs.List.{AllByRecursion};
 ghost use Rattle.cqp_expand.specs.Flat.{IsFlat};
 ghost use Rattle.cqp_expand.specs.Moved.{moved, name_at, node_at, HasName, HasNode, HasNumbers};

@@ -10,6 +10,7 @@ ghost use Rattle.cqp_expand.specs.Tables.{IsTable, Extends, renumbered};
 use crate::NoMemory;
 use cqp_program::TyTree;
 use cqp_syntax::{Names, Ty};
+use smallvec::{SmallVec, smallvec};
 use std::alloc::{AllocError, Global};
 
 /// The types so far, a type's parts before it.
@@ -48,7 +49,7 @@ impl TypeTable {
             → IfOk result (λ n. type_at self.new.types.items n ≡ t) }
     {
         let parts = ty.nodes.as_slice();
-        let mut numbers = vec![in self.alloc; 0; parts.len()]?;
+        let mut numbers: SmallVec<u32, 4> = smallvec![in self.alloc; 0; parts.len()]?;
         let mut left = parts.len();
         while left > 0 {
             left -= 1;

@@ -5,10 +5,11 @@ ghost use Rattle.cqp_grammar.specs.Lexemes.{Advances, Begins};
 ghost use Rattle.cqp_grammar.specs.Spelling.{is_digit, is_letter, is_blank};
 
 use crate::bytes::{digits_len, is_blank, is_digit, is_letter, line_len, word_len};
+use crate::name_text::NameText;
 use crate::number::value;
-use crate::spelling::{first_symbol, reserved, symbol_text};
+use crate::spelling::{first_symbol, reserved, symbol_len};
 use crate::token::Token;
-use cqp_outside::{Bytes, NoMemory};
+use cqp_outside::NoMemory;
 use std::alloc::Global;
 
 /// What stands next in a text, and how many bytes it takes.
@@ -51,7 +52,7 @@ fn word(alloc: Global, bytes: &[u8], at: u32) -> Result<Lexeme, NoMemory>
     let token = match reserved(word) {
         Some(reserved) => Token::Reserved { reserved, at },
         None => Token::Name {
-            text: Bytes::from_vec(Vec::from_slice(alloc, word)?),
+            text: NameText::new(alloc, word)?,
             at,
         },
     };
@@ -104,7 +105,7 @@ fn symbol(bytes: &[u8], at: u32) -> Lexeme
     match first_symbol(bytes) {
         Some(symbol) => Lexeme::Whole {
             token: Token::Symbol { symbol, at },
-            len: symbol_text(symbol).len(),
+            len: symbol_len(symbol),
         },
         None => Lexeme::Nothing,
     }

@@ -1,5 +1,5 @@
 -- Where the prefix of a part that stands ends, names rise, and its node binds each or it was free there.
-use Rattle.std.proofs.Common.{◌≡◌, ℕ, true, Bool, List, [], ◌∷◌, ◌++◌, ◌==◌, length, append_assoc, refl, sym, ap, subst, ◌∙◌}
+use Rattle.std.proofs.Common.{◌≡◌, ℕ, true, Bool, List, [], ◌∷◌, ◌++◌, ◌==◌, length, append_assoc, refl, sym, ap, subst, ◌∙◌, ◌⊎◌, ⊎_elim}
 use Rattle.std.proofs.lemmas.Bool.{eq-eqb, or_left, or_right}
 use Rattle.std.proofs.lemmas.List.{map-append}
 use Rattle.std.specs.List.{AllByRecursion, list_any}
@@ -86,3 +86,14 @@ module _ (l : Listing) (sound : IsProc l) (part : Part) (w : Stands l part) wher
         known = all_both (λ b. is_known l part.node b.name ≡ true) env (bound_to xs vs) (all_free_known env w.free)
             (all_bound_known (bound_to xs vs) (subst (λ ys. AllByRecursion (λ b. is_one ys b ≡ true) (bound_to xs vs)) (sym is) (bound_are xs vs)));
       }
+
+  -- as a binder's does with its name bound
+  pub may_bind_name : (x : Node) (y : ℕ) (v : Val) → node_at l part.node ≡ x
+      → ((body : ℕ) × (x ≡ node.New y body)) ⊎ ((body : ℕ) × (x ≡ node.Qbit y body))
+      → PrefixEnds l part.node (part.env ++ record { name = y; val = v } ∷ [])
+  may_bind_name x y v there is =
+      let bound : binds_in x ≡ y ∷ [] = ⊎_elim
+      (λ (t : (body : ℕ) × (x ≡ node.New y body)). ap binds_in t.1)
+      (λ (t : (body : ℕ) × (x ≡ node.Qbit y body)). ap binds_in t.1)
+      is in
+      may_bind (y ∷ []) (v ∷ []) (ap binds_in there ∙ bound)

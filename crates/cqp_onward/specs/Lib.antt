@@ -1,3 +1,4 @@
+pub mod Effects
 pub mod Forgetting
 pub mod Leads
 pub mod Sharing

@@ -12,6 +12,8 @@ use cqp_lists::List;
 use cqp_parts::{Env, Part, Vals};
 use cqp_syntax::Proc;
 use cqp_uses::Uses;
+use std::alloc::Global;
+use std::mem;
 
 /// The part goes on at the prefix n, alone or as the first of several. It takes no memory, and
 /// copies nothing.
@@ -28,6 +30,20 @@ pub(crate) fn begins(proc: &Proc, uses: &Uses, part: Part, n: u32, alone: bool) 
         env: kept(proc, uses, node, env, n, alone),
         vals: emptied(vals),
     }
+}
+
+/// The part goes on at the prefix n alone, in its place. It takes no memory, and copies nothing.
+pub(crate) fn begins_here(proc: &Proc, uses: &Uses, alloc: Global, part: &mut Part, n: u32)
+    requires uses { IsUses proc.now uses.now }
+    requires there { IsProcessAt proc.now n }
+    requires ends { PrefixEnds proc.now part.old.node part.old.env }
+    ensures { part.new ≡ begins_at proc.now part.old.env n }
+{
+    let env = mem::replace(&mut part.env, Env::new(alloc));
+    part.env = keep_on(env, proc, uses, part.node, n);
+    let vals = mem::replace(&mut part.vals, Vals::new(alloc));
+    part.vals = emptied(vals);
+    part.node = n;
 }
 
 /// The bindings of names that are free at the prefix n, behind the prefix at p. The first of

@@ -3,7 +3,7 @@
 ghost use Rattle.std.specs.Prelude.{◌≡◌, ◌++◌, ◌∷◌, [], true, IfOk, IfErr};
 ghost use Rattle.std.specs.List.{AllByRecursion};
 ghost use Rattle.cqp_parts.specs.Parts.{opening_parts, parts_from, parts_after, parts_after_input};
-ghost use Rattle.cqp_parts.specs.Parts.{node_at, with_result_of, body_of, branch_of, bound_by};
+ghost use Rattle.cqp_parts.specs.Parts.{node_at, with_result_of, body_of, bound_by};
 ghost use Rattle.cqp_parts.specs.Parts.{bound_to};
 ghost use Rattle.cqp_uses.specs.Users.{IsUses};
 ghost use Rattle.cqp_parts.specs.Parts.{IsProcessAt};
@@ -14,6 +14,7 @@ ghost use Rattle.cqp_onward.specs.Leads.{LeadsOn};
 
 use crate::ahead::Ahead;
 use crate::binding::all_bound_goes;
+use crate::effect::{Effect, body, effect_of};
 use crate::moved::{ahead_at, goes_to};
 use crate::parts::{Parts, Refused};
 use cqp_parts::{Env, Part, Vals};
@@ -64,21 +65,10 @@ fn after(proc: &Proc, uses: &Uses, alloc: Global, part: Part, deed: &Deed) -> Re
     ensures ok { IfOk result (λ parts. parts ≡ parts_after proc.now part deed.now) }
     ensures err { IfErr result (λ e. e.part ≡ part) }
 {
-    match deed {
-        Deed::Add { v } => with_result(alloc, part, Val::Num { v: *v }),
-        Deed::Pick { op } => with_result(alloc, part, Val::Gate { op: *op }),
-        Deed::Gate { .. } => with_result(alloc, part, Val::Unit),
-        Deed::Measure { outcome, .. } => with_result(alloc, part, Val::Num { v: *outcome }),
-        Deed::Qbit { q } => bound_goes(proc, uses, alloc, part, Val::Qubit { q: *q }),
-        Deed::New { c } => bound_goes(proc, uses, alloc, part, Val::Chan { c: *c }),
-        Deed::If { yes } => {
-            let n = branch(proc.node(part.node), *yes);
-            goes_to(proc, uses, alloc, part, n)
-        }
-        Deed::Act | Deed::Com { .. } => {
-            let n = body(proc.node(part.node));
-            goes_to(proc, uses, alloc, part, n)
-        }
+    match effect_of(proc, &part, deed) {
+        Effect::Reduces(val) => with_result(alloc, part, val),
+        Effect::Binds(val) => bound_goes(proc, uses, alloc, part, val),
+        Effect::Ends(n) => goes_to(proc, uses, alloc, part, n),
     }
 }
 
@@ -136,20 +126,13 @@ fn received(
 }
 
 /// The part with one redex more reduced.
-fn with_result(alloc: Global, part: Part, val: Val) -> Result<Parts, Refused>
+fn with_result(alloc: Global, mut part: Part, val: Val) -> Result<Parts, Refused>
     ensures ok { IfOk result (λ parts. parts ≡ with_result_of part val ∷ []) }
     ensures err { IfErr result (λ e. e.part ≡ part) }
 {
-    let Part {
-        node,
-        env,
-        mut vals,
-    } = part;
-    match vals.push(val) {
-        Ok(()) => Ok(Parts::one(alloc, Part { node, env, vals })),
-        Err(_) => Err(Refused {
-            part: Part { node, env, vals },
-        }),
+    match part.vals.push(val) {
+        Ok(()) => Ok(Parts::one(alloc, part)),
+        Err(_) => Err(Refused { part }),
     }
 }
 
@@ -174,29 +157,5 @@ fn bound_goes(
             all_bound_goes(proc, uses, alloc, part, &[*name], &[val], n)
         }
         _ => goes_to(proc, uses, alloc, part, n),
-    }
-}
-
-/// The number of the process that follows a node.
-fn body(node: &Node) -> u32
-    ensures { result ≡ body_of node.now }
-{
-    match node {
-        Node::New { name: _, body }
-        | Node::Qbit { name: _, body }
-        | Node::Act { expr: _, body }
-        | Node::In { body, .. }
-        | Node::Out { body, .. } => *body,
-        _ => 0,
-    }
-}
-
-/// The number of the branch that is taken.
-fn branch(node: &Node, answer: bool) -> u32
-    ensures { result ≡ branch_of node.now answer }
-{
-    match node {
-        Node::If { yes, no, .. } => { if answer { *yes } else { *no } }
-        _ => 0,
     }
 }

@@ -2,8 +2,10 @@
 #![tactic(auto)]
 
 mod ahead;
+mod alone;
 mod begin;
 mod binding;
+mod effect;
 mod forgetting;
 mod going;
 mod keeping;
@@ -13,5 +15,6 @@ mod sharing;
 mod spread;
 
 pub use ahead::Ahead;
+pub use alone::go_on_alone;
 pub use going::{go_on, look_ahead, opening, receive};
 pub use parts::{Parts, Refused};

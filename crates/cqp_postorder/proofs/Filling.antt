@@ -3,11 +3,11 @@ use Rattle.std.proofs.Common.{◌≡◌, ◌≢◌, ℕ, ◌+◌, ◌<◌, ◌�
 use Rattle.std.proofs.Common.{replicate, refl, sym, ◌∙◌, ap, append_assoc, append-nil}
 use Rattle.std.proofs.Common.{length-append, arith}
 use Rattle.std.proofs.lemmas.List.{set_comm, set_at}
-use Rattle.cqp_postorder.specs.Subtrees.{Subtree, Subtrees, no_parts, part_and, length_of, size_of}
+use Rattle.cqp_postorder.specs.Subtrees.{Subtree, Subtrees, no_parts, part_and, size_of}
 use Rattle.cqp_postorder.specs.Subtrees.{sizes_of, numbers_of, fragments_of, all_fragments_of}
 use Rattle.cqp_postorder.specs.Subtrees.{fragment_sizes, all_fragment_sizes, AreCounted}
-use Rattle.cqp_postorder.specs.Subtrees.{Pending, behind, pending_count, pending_numbers}
-use Rattle.cqp_postorder.specs.Subtrees.{pending_fragments, pending_sizes, AreAdjacent}
+use Rattle.cqp_postorder.specs.Subtrees.{Pending, behind, pending_numbers}
+use Rattle.cqp_postorder.specs.Subtrees.{pending_fragments, pending_sizes}
 use Rattle.cqp_postorder.specs.Placing.{written, filled, ArePlaced}
 
 -- two lists of items are written one after another
@@ -51,13 +51,6 @@ abbrev pub spread : Pending → ℕ → Subtrees → Pending
 spread ps n no_parts = ps
 spread ps n (part_and t ts) = spread (behind ps n t) (n + size_of t) ts
 
--- how many they are
-pub pending_count-spread : (ps : Pending) (n : ℕ) (ts : Subtrees)
-    → pending_count (spread ps n ts) ≡ pending_count ps + length_of ts
-pending_count-spread ps n no_parts = omega arith
-pending_count-spread ps n (part_and t ts) =
-    omega (arith, pending_count-spread (behind ps n t) (n + size_of t) ts)
-
 -- their numbers
 pub pending_numbers-spread : (ps : Pending) (n : ℕ) (ts : Subtrees)
     → pending_numbers (spread ps n ts) ≡ pending_numbers ps ++ numbers_of n ts
@@ -81,13 +74,6 @@ pending_sizes-spread ps n no_parts = sym (append-nil (pending_sizes ps))
 pending_sizes-spread ps n (part_and t ts) =
     pending_sizes-spread (behind ps n t) (n + size_of t) ts
     ∙ append_assoc (pending_sizes ps) (fragment_sizes t) (all_fragment_sizes ts)
-
--- they are adjacent
-pub adjacent_spread : (ps : Pending) (n end : ℕ) (ts : Subtrees) → n + sizes_of ts ≡ end
-    → AreAdjacent n ps → AreAdjacent end (spread ps n ts)
-adjacent_spread ps n end no_parts e h = let same : n ≡ end = omega arith in rw (← same) h
-adjacent_spread ps n end (part_and t ts) e h =
-    adjacent_spread (behind ps n t) (n + size_of t) end ts (omega arith) (refl, h)
 
 -- parts that end within the limit too
 pub placed_spread : (limit : ℕ) (ps : Pending) (n : ℕ) (ts : Subtrees) → n + sizes_of ts ≤ limit

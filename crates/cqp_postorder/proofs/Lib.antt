@@ -1,5 +1,6 @@
 mod Counts
 mod Filling
+mod Found
 mod Parts
 mod Placed
 mod Sizing

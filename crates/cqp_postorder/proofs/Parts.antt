@@ -1,12 +1,13 @@
--- The numbers of a node's parts, found from the last to the first.
-use Rattle.std.proofs.Common.{◌≡◌, ℕ, ◌+◌, ◌-◌, ◌<◌, ◌≤◌, List, [], ◌∷◌, ◌++◌, length, get_or, take, drop}
-use Rattle.std.proofs.Common.{refl, sym, ◌∙◌, ap, subst, append_assoc, append-nil, length-append}
-use Rattle.std.proofs.Common.{arith, reverse}
-use Rattle.std.proofs.lemmas.List.{get_or_push, take_at, drop_at, reverse-append}
-use Rattle.cqp_postorder.specs.Subtrees.{Subtree, over, Subtrees, no_parts, part_and, size_of}
-use Rattle.cqp_postorder.specs.Subtrees.{sizes_of, fragment_sizes, all_fragment_sizes, Pending, nothing}
-use Rattle.cqp_postorder.specs.Subtrees.{behind, pending_numbers, pending_sizes, AreAdjacent}
-use Rattle.cqp_postorder.specs.Subtrees.{AreLast, IsLastSize}
+-- The sizes of a node's parts and their numbers, found from the last to the first.
+use Rattle.std.proofs.Common.{◌≡◌, ℕ, zero, suc, ◌+◌, ◌-◌, ◌<◌, ◌≤◌, List, [], ◌∷◌, ◌++◌, length, get_or}
+use Rattle.std.proofs.Common.{take, drop, refl, sym, ◌∙◌, ap, append_assoc, length-append, arith}
+use Rattle.std.proofs.Common.{reverse, append-nil}
+use Rattle.std.proofs.lemmas.List.{get_or_at, take_at, drop_at, drop_all, drop_more}
+use Rattle.std.proofs.lemmas.List.{reverse-append, reverse-reverse}
+use Rattle.cqp_postorder.specs.Subtrees.{Subtree, over, Subtrees, no_parts, part_and, length_of}
+use Rattle.cqp_postorder.specs.Subtrees.{size_of, sizes_of, numbers_of, fragment_sizes}
+use Rattle.cqp_postorder.specs.Subtrees.{all_fragment_sizes, EndIn}
+use Rattle.cqp_postorder.proofs.Counts.{length-numbers_of}
 
 mutual
   -- a subtree has as many sizes of fragments as its own size says
@@ -29,158 +30,164 @@ mutual
         length-all_fragment_sizes ts,
       )
 
--- of these subtrees some are left, and the numbers of the others are found, the last first
-pub record Walked (whole : Pending) (rest : List ℕ) (number left : ℕ) (found : List ℕ) : Type 0
-  where
-    pub ps : Pending
-    pub last : AreLast rest number left ps
-    pub numbers : pending_numbers whole ≡ pending_numbers ps ++ reverse found
+-- how many nodes the subtrees behind the first so many have
+abbrev pub size_behind : ℕ → Subtrees → ℕ
+size_behind zero ts = sizes_of ts
+size_behind (suc i) no_parts = 0
+size_behind (suc i) (part_and t ts) = size_behind i ts
 
--- at first all are left
-pub walked_none : (whole : Pending) (sizes : List ℕ) (end count : ℕ) → AreLast sizes end count whole
-    → Walked whole sizes end count []
-walked_none whole sizes end count h = record { ps = whole; last = h; numbers = simp append-nil }
+-- behind all of them there are none
+size_behind_all : (ts : Subtrees) → size_behind (length_of ts) ts ≡ 0
+size_behind_all no_parts = refl
+size_behind_all (part_and t ts) =
+    let next : 1 + length_of ts ≡ suc (length_of ts) = omega arith in rw next (size_behind_all ts)
 
--- a number that is found stands before those that were found
-found_more : (xs found : List ℕ) (n m : ℕ) → n ≡ m
-    → (xs ++ n ∷ []) ++ reverse found ≡ xs ++ reverse (found ++ m ∷ [])
-found_more xs found n m e = rw (e, reverse-append, append_assoc) refl
+-- those behind are some of all
+size_behind_within : (i : ℕ) (ts : Subtrees) → size_behind i ts ≤ sizes_of ts
+size_behind_within zero ts = omega arith
+size_behind_within (suc i) no_parts = omega arith
+size_behind_within (suc i) (part_and t ts) = omega (arith, size_behind_within i ts)
 
--- where one is left, its size is the last
-pub record PartStep (whole : Pending) (rest : List ℕ) (number left : ℕ) (found : List ℕ) (size : ℕ)
-    : Type 0 where
-  pub fits : size ≤ length rest
-  pub within : size ≤ number
-  pub next : Walked whole (take (length rest - size) rest) (number - size) (left - 1)
-      (found ++ (number - size) ∷ [])
+-- each has a node
+size_behind_less : (i : ℕ) (ts : Subtrees) → i < length_of ts
+    → size_behind (suc i) ts < size_behind i ts
+size_behind_less i no_parts h = absurd (omega arith)
+size_behind_less zero (part_and (over k at us) ts) h = omega arith
+size_behind_less (suc i) (part_and t ts) h = size_behind_less i ts (omega arith)
 
--- the last of the sizes, as it is read
-pub read_last : (sizes : List ℕ) → IsLastSize (get_or sizes (length sizes - 1) 0) sizes
-read_last sizes front last e =
-    let place : length front ≡ length sizes - 1 =
-    omega (arith, ap length e, length-append front (last ∷ [])) in
-    ap (λ l. get_or l (length sizes - 1) 0) e ∙ get_or_push front last 0 (length sizes - 1) place
-
--- of the last complete subtrees, the next part is the last, by its size
-step_at : (whole : Pending) (rest : List ℕ) (number left : ℕ) (found : List ℕ) (size : ℕ)
-    (ps : Pending)
-    → AreLast rest number left ps
-    → pending_numbers whole ≡ pending_numbers ps ++ reverse found → 0 < left → IsLastSize size rest
-    → PartStep whole rest number left found size
-step_at whole rest number left found size nothing last numbers some is =
-    absurd (omega (arith, last.counted))
-step_at whole rest number left found size (behind ps n (over k at ts)) last numbers some is =
-    let own = all_fragment_sizes ts in
-    let front = last.before ++ pending_sizes ps in
-    let root = 1 + sizes_of ts in
-    let whole_is : rest ≡ front ++ (own ++ root ∷ []) =
-    last.are ∙ sym (append_assoc last.before (pending_sizes ps) (own ++ root ∷ [])) in
-    let split : rest ≡ (front ++ own) ++ root ∷ [] =
-    whole_is ∙ sym (append_assoc front own (root ∷ [])) in
-    let sized : size ≡ 1 + sizes_of ts = is (front ++ own) root split in
-    let long : length rest ≡ length front + length (own ++ root ∷ []) =
-    ap length whole_is ∙ length-append front (own ++ root ∷ []) in
-    let own_long : length (own ++ root ∷ []) ≡ 1 + sizes_of ts = length-fragment_sizes (over k at ts) in
-    let ends_at : n + (1 + sizes_of ts) ≡ number = last.adjacent.0 in
-    let starts : n ≡ number - size = omega arith in
-    let place : length front ≡ length rest - size = omega arith in
-    record {
-      fits = omega arith;
-      within = omega arith;
-      next = record {
-        ps = ps;
-        last = record {
-          before = last.before;
-          are =
-              ap (λ l. take (length rest - size) l) whole_is
-              ∙ take_at front (own ++ root ∷ []) (length rest - size) place;
-          counted = omega (arith, last.counted);
-          adjacent = subst (λ e. AreAdjacent e ps) starts last.adjacent.1;
-        };
-        numbers = numbers ∙ found_more (pending_numbers ps) found n (number - size) starts;
-      };
-    }
-
--- the step from one number to the next
-pub part_step : (whole : Pending) (rest : List ℕ) (number left : ℕ) (found : List ℕ) (size : ℕ)
-    → Walked whole rest number left found → 0 < left
-    → IsLastSize size rest → PartStep whole rest number left found size
-part_step whole rest number left found size w some is =
-    step_at whole rest number left found size w.ps w.last w.numbers some is
-
--- while a part is left, a size is left
-some_at : (rest : List ℕ) (number left : ℕ) (ps : Pending) → AreLast rest number left ps → 0 < left
-    → 0 < length rest
-some_at rest number left nothing last some = absurd (omega (arith, last.counted))
-some_at rest number left (behind ps n (over k at ts)) last some =
-    let t = over k at ts in
-    let own = length-append (pending_sizes ps) (fragment_sizes t) in
+-- right before the sizes of those behind it stands the size of a subtree
+size_at : (all before : List ℕ) (i : ℕ) (ts : Subtrees) → all ≡ before ++ all_fragment_sizes ts
+    → i < length_of ts
+    → size_behind (suc i) ts + get_or all (length all - 1 - size_behind (suc i) ts) 0
+    ≡ size_behind i ts
+size_at all before i no_parts e h = absurd (omega arith)
+size_at all before zero (part_and (over k at us) ts) e h =
+    let front = before ++ all_fragment_sizes us in
+    let root = 1 + sizes_of us in
+    let split : all ≡ front ++ root ∷ all_fragment_sizes ts = rw e (simp append_assoc) in
+    let place : length front ≡ length all - 1 - sizes_of ts =
     omega (
       arith,
-      ap length last.are,
-      length-append last.before (pending_sizes ps ++ fragment_sizes t),
-      own,
-      length-fragment_sizes t,
-    )
+      ap length split,
+      length-append front (root ∷ all_fragment_sizes ts),
+      length-all_fragment_sizes ts,
+    ) in
+    let read : get_or all (length all - 1 - sizes_of ts) 0 ≡ root =
+    ap (λ l. get_or l (length all - 1 - sizes_of ts) 0) split
+    ∙ get_or_at front root (all_fragment_sizes ts) 0 _ place in
+    omega (arith, read)
+size_at all before (suc i) (part_and t ts) e h =
+    size_at all (before ++ fragment_sizes t) i ts
+    (e ∙ sym (append_assoc before (fragment_sizes t) (all_fragment_sizes ts))) (omega arith)
 
--- where one is left, there is a size
-pub part_some : (whole : Pending) (rest : List ℕ) (number left : ℕ) (found : List ℕ)
-    → Walked whole rest number left found → 0 < left → 0 < length rest
-part_some whole rest number left found w some = some_at rest number left w.ps w.last some
+-- a part ends where the nodes of those behind it begin
+number_at : (n i : ℕ) (ts : Subtrees) → i < length_of ts
+    → get_or (numbers_of n ts) i 0 + size_behind i ts ≡ n + sizes_of ts
+number_at n i no_parts h = absurd (omega arith)
+number_at n zero (part_and t ts) h = refl
+number_at n (suc i) (part_and t ts) h =
+    omega (arith, number_at (n + size_of t) i ts (omega arith))
 
--- where no part is left, all numbers are found
-all_at : (whole : Pending) (rest : List ℕ) (number : ℕ) (found : List ℕ) (ps : Pending)
-    → AreLast rest number 0 ps
-    → pending_numbers whole ≡ pending_numbers ps ++ reverse found
-    → reverse found ≡ pending_numbers whole
-all_at whole rest number found nothing last numbers = sym numbers
-all_at whole rest number found (behind ps n t) last numbers = absurd (omega (arith, last.counted))
+-- at first no part is gone over
+pub none_gone : (sizes : List ℕ) (count j : ℕ) (ts : Subtrees) → EndIn sizes count ts → j ≡ count
+    → 0 ≡ size_behind j ts
+none_gone sizes count j ts h e =
+    rw (e ∙ sym h.many) (sym (size_behind_all ts))
 
--- where none is left, all numbers are found
-pub walked_all : (whole : Pending) (rest : List ℕ) (number left : ℕ) (found : List ℕ) → left ≡ 0
-    → Walked whole rest number left found
-    → reverse found ≡ pending_numbers whole
-walked_all whole rest number left found none w =
-    all_at whole rest number found w.ps (subst (λ k. AreLast rest number k w.ps) none w.last)
-    w.numbers
+-- the part before those that were gone over, and how many nodes both have
+pub record NextPart (sizes : List ℕ) (total i : ℕ) (ts : Subtrees) : Type 0 where
+  pub some : total < length sizes
+  pub next : total + get_or sizes (length sizes - 1 - total) 0 ≡ size_behind i ts
+  pub within : size_behind i ts ≤ sizes_of ts
+  pub fits : sizes_of ts ≤ length sizes
 
--- the same, where the numbers that are found stand behind others
-pub record WalkedBehind (first : ℕ) (front : List ℕ) (whole : Pending) (rest : List ℕ)
-    (number left : ℕ) (numbers : List ℕ) : Type 0 where
-  pub found : List ℕ
-  pub are : numbers ≡ front ++ found
-  pub many : first ≡ length front
-  pub walked : Walked whole rest number left found
+-- where a part is left, its size is the next
+pub next_part : (sizes : List ℕ) (count i j total : ℕ) (ts : Subtrees) → EndIn sizes count ts
+    → i + 1 ≡ j → j ≤ count → total ≡ size_behind j ts → NextPart sizes total i ts
+next_part sizes count i j total ts h e left is =
+    let less : i < length_of ts = omega (arith, h.many) in
+    let next : j ≡ suc i = omega arith in
+    let behind : total ≡ size_behind (suc i) ts = rw next at is in
+    let long : length sizes ≡ length h.before + sizes_of ts =
+    omega (
+      arith,
+      ap length h.are,
+      length-append h.before (all_fragment_sizes ts),
+      length-all_fragment_sizes ts,
+    ) in
+    let within = size_behind_within i ts in
+    record {
+      some = omega (arith, size_behind_less i ts less);
+      next = rw behind (size_at sizes h.before i ts h.are less);
+      within = within;
+      fits = omega arith;
+    }
 
--- a number more stands behind them
-pub behind_more : (first : ℕ) (front : List ℕ) (whole : Pending) (rest : List ℕ)
-    (number left size : ℕ) (numbers : List ℕ)
-    → (w : WalkedBehind first front whole rest number left numbers) → 0 < left
-    → IsLastSize size rest
-    → WalkedBehind first front whole (take (length rest - size) rest) (number - size) (left - 1)
-    (numbers ++ (number - size) ∷ [])
-behind_more first front whole rest number left size numbers w some is = record {
-  found = w.found ++ (number - size) ∷ [];
-  are =
-      ap (λ xs. xs ++ (number - size) ∷ []) w.are
-      ∙ append_assoc front w.found ((number - size) ∷ []);
-  many = w.many;
-  walked = (part_step whole rest number left w.found size w.walked some is).next;
-}
+-- at first no number is found
+pub none_found : (sizes : List ℕ) (count j n : ℕ) (ts : Subtrees) → EndIn sizes count ts → j ≡ count
+    → (old : List ℕ) → old ≡ old ++ reverse (drop j (numbers_of n ts))
+none_found sizes count j n ts h e old =
+    let none : drop j (numbers_of n ts) ≡ [] =
+    drop_all j (numbers_of n ts) (omega (arith, length-numbers_of n ts, h.many)) in
+    rw none (sym (append-nil old))
 
--- where none is left, those that were found are turned round
-pub behind_all : (first : ℕ) (front : List ℕ) (whole : Pending) (rest : List ℕ)
-    (number left : ℕ) (numbers : List ℕ) → left ≡ 0
-    → WalkedBehind first front whole rest number left numbers
-    → take first numbers ++ reverse (drop first numbers) ≡ front ++ pending_numbers whole
-behind_all first front whole rest number left numbers none w =
-    let front_is = ap (take first) w.are ∙ take_at front w.found first (sym w.many) in
-    let found_is = ap (drop first) w.are ∙ drop_at front w.found first (sym w.many) in
-    rw (front_is, found_is, walked_all whole rest number left w.found none w.walked) refl
+-- the number of the next part stands behind those of the parts behind it
+pub one_found : (sizes : List ℕ) (count i j n end : ℕ) (ts : Subtrees) → EndIn sizes count ts
+    → n + sizes_of ts ≡ end → i + 1 ≡ j → j ≤ count → (old numbers : List ℕ)
+    → numbers ≡ old ++ reverse (drop j (numbers_of n ts))
+    → numbers ++ (end - size_behind i ts) ∷ [] ≡ old ++ reverse (drop i (numbers_of n ts))
+one_found sizes count i j n end ts h ends e left old numbers is =
+    let ns = numbers_of n ts in
+    let less : i < length_of ts = omega (arith, h.many) in
+    let number : get_or ns i 0 ≡ end - size_behind i ts = omega (arith, number_at n i ts less) in
+    let next : reverse (drop i ns) ≡ reverse (drop j ns) ++ get_or ns i 0 ∷ [] =
+    ap reverse (drop_more ns i 0 (omega (arith, length-numbers_of n ts)))
+    ∙ reverse-append (get_or ns i 0 ∷ []) (drop (i + 1) ns)
+    ∙ ap (λ k. reverse (drop k ns) ++ get_or ns i 0 ∷ []) e in
+    rw (is, next, number) (append_assoc old (reverse (drop j ns)) ((end - size_behind i ts) ∷ []))
 
--- the others are no more than all
-pub first_within : (first : ℕ) (front : List ℕ) (whole : Pending) (rest : List ℕ)
-    (number left : ℕ) (numbers : List ℕ)
-    → WalkedBehind first front whole rest number left numbers → first ≤ length numbers
-first_within first front whole rest number left numbers w =
-    omega (arith, ap length w.are, length-append front w.found, w.many)
+-- where all are found, they are turned round
+pub all_found : (j n first : ℕ) (ts : Subtrees) → j ≡ 0 → (old numbers : List ℕ)
+    → first ≡ length old → numbers ≡ old ++ reverse (drop j (numbers_of n ts))
+    → take first numbers ++ reverse (drop first numbers) ≡ old ++ numbers_of n ts
+all_found j n first ts e old numbers f is =
+    let ns = numbers_of n ts in
+    let all : numbers ≡ old ++ reverse ns = rw e at is in
+    let front = ap (take first) all ∙ take_at old (reverse ns) first (sym f) in
+    let found = ap (drop first) all ∙ drop_at old (reverse ns) first (sym f) in
+    rw (front, found, reverse-reverse) refl
+
+-- a node with no part has no number of a part
+pub no_numbers : (n : ℕ) (ts : Subtrees) → length_of ts ≡ 0 → numbers_of n ts ≡ []
+no_numbers n no_parts h = refl
+no_numbers n (part_and t ts) h = absurd (omega arith)
+
+-- the only part has the first number
+pub one_number : (n : ℕ) (ts : Subtrees) → length_of ts ≡ 1 → numbers_of n ts ≡ n ∷ []
+one_number n no_parts h = absurd (omega arith)
+one_number n (part_and t no_parts) h = refl
+one_number n (part_and t (part_and u ts)) h = absurd (omega arith)
+
+-- of two parts the second has a number that the last size tells
+pub record TwoNumbers (sizes : List ℕ) (n end : ℕ) (ts : Subtrees) : Type 0 where
+  pub some : 0 < length sizes
+  pub fits : get_or sizes (length sizes - 1 - 0) 0 ≤ end
+  pub are : numbers_of n ts ≡ n ∷ (end - get_or sizes (length sizes - 1 - 0) 0) ∷ []
+
+-- so it is where the sizes end in theirs
+pub two_numbers : (sizes : List ℕ) (n end : ℕ) (ts : Subtrees) → EndIn sizes 2 ts
+    → n + sizes_of ts ≡ end → TwoNumbers sizes n end ts
+two_numbers sizes n end no_parts h ends = absurd (omega (arith, h.many))
+two_numbers sizes n end (part_and t no_parts) h ends = absurd (omega (arith, h.many))
+two_numbers sizes n end (part_and t (part_and u no_parts)) h ends =
+    let ts = part_and t (part_and u no_parts) in
+    let part = next_part sizes 2 1 2 0 ts h refl (omega arith) refl in
+    let second : n + size_of t ≡ end - get_or sizes (length sizes - 1 - 0) 0 =
+    omega (arith, part.next) in
+    record {
+      some = part.some;
+      fits = omega (arith, part.next);
+      are = ap (λ m. n ∷ m ∷ []) second;
+    }
+two_numbers sizes n end (part_and t (part_and u (part_and v ts))) h ends =
+    absurd (omega (arith, h.many))

@@ -1,8 +1,8 @@
 -- The lists of a tree while its fragments are placed, from the last to the first.
 use Rattle.std.proofs.Common.{◌≡◌, ℕ, ◌+◌, ◌^◌, ◌<◌, ◌≤◌, List, [], ◌∷◌, ◌++◌, length, set}
 use Rattle.std.proofs.Common.{replicate, refl, sym, ◌∙◌, ap, subst, append_assoc, length-append}
-use Rattle.std.proofs.Common.{length-set, arith, ◌-◌, take, drop, take_all}
-use Rattle.std.proofs.lemmas.List.{length-replicate, same_from_push, drop_at}
+use Rattle.std.proofs.Common.{length-set, arith}
+use Rattle.std.proofs.lemmas.List.{length-replicate, same_from_push}
 use Rattle.cqp_program.specs.declared.tree.TreeNode.{TreeNode}
 use Rattle.cqp_program.specs.declared.fragment.Fragment.{Fragment}
 use Rattle.cqp_postorder.specs.Subtrees.{part_count, node_with, Subtree, over}
@@ -11,14 +11,14 @@ use Rattle.cqp_postorder.specs.Subtrees.{nodes_of, all_nodes_of, offsets_of, all
 use Rattle.cqp_postorder.specs.Subtrees.{fragments_of, all_fragments_of, fragment_sizes, all_fragment_sizes}
 use Rattle.cqp_postorder.specs.Subtrees.{IsCounted, Pending, nothing, behind}
 use Rattle.cqp_postorder.specs.Subtrees.{pending_numbers, pending_fragments}
-use Rattle.cqp_postorder.specs.Subtrees.{pending_sizes, AreLast}
+use Rattle.cqp_postorder.specs.Subtrees.{pending_sizes, EndIn}
 use Rattle.cqp_postorder.specs.Placing.{written, filled, offsets_from, ArePlaced, PlacesRest}
-use Rattle.cqp_postorder.specs.Placing.{PlacesNode, PlacesParts}
+use Rattle.cqp_postorder.specs.Placing.{PlacesNode}
 use Rattle.cqp_postorder.proofs.Parts.{length-fragment_sizes}
 use Rattle.cqp_postorder.proofs.Filling.{written-set, written_whole, spread}
-use Rattle.cqp_postorder.proofs.Filling.{pending_count-spread, pending_numbers-spread}
+use Rattle.cqp_postorder.proofs.Filling.{pending_numbers-spread}
 use Rattle.cqp_postorder.proofs.Filling.{pending_fragments-spread, pending_sizes-spread}
-use Rattle.cqp_postorder.proofs.Filling.{adjacent_spread, placed_spread, filled-spread}
+use Rattle.cqp_postorder.proofs.Filling.{placed_spread, filled-spread}
 use Rattle.cqp_postorder.proofs.Counts.{length-nodes_of, length-fragments_of, length-offsets_of}
 use Rattle.cqp_postorder.proofs.Counts.{length_within_sizes, length-numbers_of}
 
@@ -172,27 +172,16 @@ module _ (t : Subtree) (left : List Fragment) (x : Fragment) (size n : ℕ) (siz
 
   -- its parts are the last of those that are left
   pub parts_last : (last : List ℕ) (count : ℕ) → last ≡ sizes → count ≡ part_count x.kind
-      → AreLast last (n + size) count (spread nothing (n + 1) p.node.parts)
-  parts_last last count e g =
-      let parts = p.node.parts in
-      let ends_there : n + 1 + sizes_of parts ≡ n + size = omega (arith, p.whole) in
-      let many : length_of parts ≡ count = p.node.many ∙ sym g in
-      record {
-        before = pending_sizes p.node.rest;
-        are =
-            e ∙ p.node.sized ∙ ap (λ xs. pending_sizes p.node.rest ++ xs)
-            (sym (pending_sizes-spread nothing (n + 1) parts));
-        counted = omega (arith, pending_count-spread nothing (n + 1) parts);
-        adjacent = adjacent_spread nothing (n + 1) (n + size) parts ends_there tt;
-      }
+      → EndIn last count p.node.parts
+  parts_last last count e g = record {
+    before = pending_sizes p.node.rest;
+    are = e ∙ p.node.sized;
+    many = p.node.many ∙ sym g;
+  }
 
-  -- where their numbers are found, its node is to be placed with them
-  pub node_next : (found : List ℕ) → found ≡ pending_numbers (spread nothing (n + 1) p.node.parts)
-      → PlacesNode t left x n found sizes numbers nodes offsets
-  node_next found f =
-      let same =
-      f ∙ pending_numbers-spread nothing (n + 1) p.node.parts ∙ sym p.node.numbers_found in
-      subst (λ ns. PlacesNode t left x n ns sizes numbers nodes offsets) (sym same) p.node
+  -- their nodes stand right behind its own, and end where it ends
+  pub parts_end : n + 1 + sizes_of p.node.parts ≡ n + size
+  parts_end = omega (arith, p.whole)
 
 module _ (t : Subtree) (left : List Fragment) (x : Fragment) (n : ℕ)
     (found sizes numbers : List ℕ) (nodes : List TreeNode) (offsets : List ℕ)
@@ -242,30 +231,3 @@ module _ (t : Subtree) (left : List Fragment) (x : Fragment) (n : ℕ)
         same = length-set offsets n x.at ∙ p.same ∙ sym long;
         few = omega (arith, p.few);
       }
-
-module _ (t : Subtree) (left : List Fragment) (x : Fragment) (n : ℕ) (sizes all : List ℕ)
-    (nodes : List TreeNode) (offsets : List ℕ)
-    (q : PlacesParts t left x n sizes all nodes offsets) where
-  -- as many numbers as the node has parts stand last
-  numbers_before : (count : ℕ) → count ≡ part_count x.kind
-      → length all ≡ length q.numbers + count
-  numbers_before count e =
-      let many : length q.found ≡ part_count x.kind = found_many _ _ _ _ _ _ _ _ _ q.node in
-      omega (arith, many, ap length q.are, length-append q.numbers q.found)
-
-  -- they are no more than all
-  pub parts_within : (count : ℕ) → count ≡ part_count x.kind → count ≤ length all
-  parts_within count e = omega (arith, numbers_before count e)
-
-  -- they are the last of all
-  pub parts_cut : (shown : List ℕ) (len count : ℕ) → shown ≡ all → len ≡ length all
-      → count ≡ part_count x.kind
-      → take (length shown - (len - count)) (drop (len - count) shown) ≡ q.found
-  parts_cut shown len count e f g =
-      let before = numbers_before count g in
-      let place : length q.numbers ≡ len - count = omega arith in
-      let found_is : drop (len - count) shown ≡ q.found =
-      ap (drop (len - count)) (e ∙ q.are) ∙ drop_at q.numbers q.found (len - count) place in
-      let many : length q.found ≡ part_count x.kind = found_many _ _ _ _ _ _ _ _ _ q.node in
-      ap (take (length shown - (len - count))) found_is
-      ∙ take_all _ q.found (omega (arith, many, ap length e))

@@ -1,196 +1,149 @@
 -- The sizes of a tree's fragments, found from the first fragment to the last.
 use Rattle.std.proofs.Common.{◌≡◌, ℕ, ◌+◌, ◌-◌, ◌<◌, ◌≤◌, List, [], ◌∷◌, ◌++◌, length, get_or, take}
-use Rattle.std.proofs.Common.{drop, refl, sym, ◌∙◌, ap, subst, append_assoc, append-nil}
-use Rattle.std.proofs.Common.{length-append, arith}
-use Rattle.std.specs.Prelude.{sum}
-use Rattle.std.proofs.lemmas.List.{take_at, drop_at, length-take-le, drop_all, drop_more}
-use Rattle.std.proofs.lemmas.List.Sums.{sum_by_push, sum_by-cons, sum_by-take-drop}
+use Rattle.std.proofs.Common.{refl, sym, ◌∙◌, ap, append_assoc}
+use Rattle.std.proofs.Common.{length-append, arith, inl, inr, ◌⊎◌}
+use Rattle.std.proofs.lemmas.Bool.{cases_lt}
+use Rattle.std.proofs.lemmas.List.{take_at, take_all, take_more, get_or_at, get_or_append_left}
+use Rattle.std.proofs.lemmas.List.{get_or-append_right}
 use Rattle.cqp_program.specs.declared.fragment.Fragment.{Fragment}
 use Rattle.cqp_postorder.specs.Subtrees.{part_count, Subtree, over, Subtrees, no_parts, part_and}
 use Rattle.cqp_postorder.specs.Subtrees.{length_of, size_of, sizes_of, fragments_of, all_fragments_of}
 use Rattle.cqp_postorder.specs.Subtrees.{fragment_sizes, all_fragment_sizes, IsCounted, AreCounted}
+use Rattle.cqp_postorder.specs.Subtrees.{EndIn}
+use Rattle.cqp_postorder.proofs.Counts.{length-fragments_of, length-all_fragments_of}
+use Rattle.cqp_postorder.proofs.Counts.{length_within_sizes}
+use Rattle.cqp_postorder.proofs.Parts.{length-fragment_sizes, length-all_fragment_sizes}
 
--- so many are the last of these sizes, which are kept otherwise
-abbrev pub kept : ℕ → List ℕ → List ℕ
-kept count complete = take (length complete - count) complete
+-- a number is below another, or it is not
+below_or_not : {C : Type 0} (a b : ℕ) → (a < b → C) → (b ≤ a → C) → C
+below_or_not {C = C} a b f g = by_cases (cases_lt a b)
+  where
+    by_cases : (a < b) ⊎ (b ≤ a) → C
+    by_cases (inl h) = f h
+    by_cases (inr h) = g h
 
--- the sum of the last sizes, so many
-abbrev pub last_sum : ℕ → List ℕ → ℕ
-last_sum count complete = sum (drop (length complete - count) complete)
+-- behind the sizes of its parts, which are so many, a fragment has its own size at i
+pub record NodeAt (all : List ℕ) (i count : ℕ) : Type 0 where
+  pub before : List ℕ
+  pub parts : Subtrees
+  pub after : List ℕ
+  pub are : all ≡ (before ++ all_fragment_sizes parts) ++ (1 + sizes_of parts) ∷ after
+  pub place : length (before ++ all_fragment_sizes parts) ≡ i
+  pub many : length_of parts ≡ count
 
--- the sizes of the subtrees that are complete once a node with so many parts is read
-abbrev pub closed : ℕ → List ℕ → List ℕ
-closed count complete = kept count complete ++ (1 + last_sum count complete) ∷ []
+-- also where more sizes follow
+node_then : (all more : List ℕ) (i count : ℕ) → NodeAt all i count → NodeAt (all ++ more) i count
+node_then all more i count h =
+    let front = h.before ++ all_fragment_sizes h.parts in
+    record {
+      before = h.before;
+      parts = h.parts;
+      after = h.after ++ more;
+      are =
+          ap (λ l. l ++ more) h.are
+          ∙ append_assoc front ((1 + sizes_of h.parts) ∷ h.after) more;
+      place = h.place;
+      many = h.many;
+    }
 
--- the sizes of these fragments, where subtrees of these sizes are complete before them
-abbrev pub sizes_from : List ℕ → List Fragment → List ℕ
-sizes_from complete [] = []
-sizes_from complete (x ∷ xs) =
-    (1 + last_sum (part_count x.kind) complete) ∷ sizes_from (closed (part_count x.kind) complete)
-    xs
-
--- each of these fragments finds its parts among the complete subtrees, of which there are so many
-abbrev pub AreReady : ℕ → List Fragment → Type 0
-AreReady many [] = Unit {0}
-AreReady many (x ∷ xs) = (part_count x.kind ≤ many) × AreReady (many - part_count x.kind + 1) xs
-
-mutual
-  -- the fragments of a tree leave one subtree more
-  ready_tree : (t : Subtree) (many : ℕ) (rest : List Fragment) → IsCounted t
-      → AreReady (many + 1) rest → AreReady many (fragments_of t ++ rest)
-  ready_tree (over k at ts) many rest counted h =
-      let own : Fragment = record { kind = k; at = at } in
-      let fits : part_count k ≤ many + length_of ts = omega (arith, counted.0) in
-      let left : many + 1 ≡ many + length_of ts - part_count k + 1 = omega (arith, counted.0) in
-      subst (λ l. AreReady many l) (sym (append_assoc (all_fragments_of ts) (own ∷ []) rest))
-      (ready_trees ts many (own ∷ rest) counted.1 (fits, subst (λ n. AreReady n rest) left h))
-
-  -- behind subtrees, so many more are complete
-  ready_trees : (ts : Subtrees) (many : ℕ) (rest : List Fragment) → AreCounted ts
-      → AreReady (many + length_of ts) rest
-      → AreReady many (all_fragments_of ts ++ rest)
-  ready_trees no_parts many rest counted h =
-      let same : many + 0 ≡ many = omega arith in subst (λ n. AreReady n rest) same h
-  ready_trees (part_and t ts) many rest counted h =
-      let next : many + (1 + length_of ts) ≡ many + 1 + length_of ts = omega arith in
-      subst (λ l. AreReady many l) (sym (append_assoc (fragments_of t) (all_fragments_of ts) rest))
-      (ready_tree t many (all_fragments_of ts ++ rest) counted.0
-      (ready_trees ts (many + 1) rest counted.1 (subst (λ n. AreReady n rest) next h)))
-
--- so the fragments of a whole tree are ready
-pub ready_whole : (t : Subtree) (fragments : List Fragment) → IsCounted t → fragments ≡ fragments_of t
-    → AreReady 0 fragments
-ready_whole t fragments counted e =
-    subst (λ l. AreReady 0 l) (append-nil (fragments_of t) ∙ sym e) (ready_tree t 0 [] counted tt)
-
--- the sizes of parts
-abbrev part_sizes : Subtrees → List ℕ
-part_sizes no_parts = []
-part_sizes (part_and t ts) = size_of t ∷ part_sizes ts
-
--- there is a size for each subtree
-length-part_sizes : (ts : Subtrees) → length (part_sizes ts) ≡ length_of ts
-length-part_sizes no_parts = refl
-length-part_sizes (part_and t ts) = omega (arith, length-part_sizes ts)
-
--- the sizes add up to those of the subtrees
-sum-part_sizes : (ts : Subtrees) → sum (part_sizes ts) ≡ sizes_of ts
-sum-part_sizes no_parts = refl
-sum-part_sizes (part_and t ts) =
-    omega (arith, sum_by-cons (λ x. x) (size_of t) (part_sizes ts), sum-part_sizes ts)
-
--- behind the parts of a node, its size is complete in place of theirs
-closed_own : (count : ℕ) (complete : List ℕ) (ts : Subtrees) → length_of ts ≡ count
-    → (kept count (complete ++ part_sizes ts) ≡ complete)
-    × (last_sum count (complete ++ part_sizes ts) ≡ sizes_of ts)
-closed_own count complete ts many =
-    let place : length complete ≡ length (complete ++ part_sizes ts) - count =
-    omega (arith, length-append complete (part_sizes ts), length-part_sizes ts) in (
-      take_at complete (part_sizes ts) _ place,
-      ap sum (drop_at complete (part_sizes ts) _ place) ∙ sum-part_sizes ts,
-    )
+-- also behind other sizes
+node_behind : (front all : List ℕ) (i j count : ℕ) → NodeAt all j count → i ≡ length front + j
+    → NodeAt (front ++ all) i count
+node_behind front all i j count h e =
+    let own = h.before ++ all_fragment_sizes h.parts in
+    let joined : front ++ own ≡ (front ++ h.before) ++ all_fragment_sizes h.parts =
+    sym (append_assoc front h.before (all_fragment_sizes h.parts)) in
+    record {
+      before = front ++ h.before;
+      parts = h.parts;
+      after = h.after;
+      are =
+          ap (λ l. front ++ l) h.are
+          ∙ sym (append_assoc front own ((1 + sizes_of h.parts) ∷ h.after))
+          ∙ ap (λ l. l ++ (1 + sizes_of h.parts) ∷ h.after) joined;
+      place = omega (arith, h.place, ap length joined, length-append front own);
+      many = h.many;
+    }
 
 mutual
-  -- the fragments of a tree have its sizes, and leave it complete
-  sizes_tree : (t : Subtree) (complete : List ℕ) (rest : List Fragment) → IsCounted t
-      → sizes_from complete (fragments_of t ++ rest)
-      ≡ fragment_sizes t ++ sizes_from (complete ++ size_of t ∷ []) rest
-  sizes_tree (over k at ts) complete rest counted =
-      let own : Fragment = record { kind = k; at = at } in
-      let whole = 1 + sizes_of ts in
-      let behind = complete ++ part_sizes ts in
-      let closes = closed_own (part_count k) complete ts counted.0 in
-      let last : sizes_from behind (own ∷ rest) ≡ whole ∷ sizes_from (complete ++ whole ∷ []) rest =
-      rw (closes.0, closes.1) refl in
-      ap (sizes_from complete) (append_assoc (all_fragments_of ts) (own ∷ []) rest)
-      ∙ sizes_trees ts complete (own ∷ rest) counted.1
-      ∙ ap (λ l. all_fragment_sizes ts ++ l) last
-      ∙ sym (append_assoc (all_fragment_sizes ts) (whole ∷ [])
-      (sizes_from (complete ++ whole ∷ []) rest))
+  -- so it is at each fragment of a tree
+  node_in : (t : Subtree) (i : ℕ) (x : Fragment) → IsCounted t → i < size_of t
+      → x ≡ get_or (fragments_of t) i x → NodeAt (fragment_sizes t) i (part_count x.kind)
+  node_in (over k at ts) i x counted within is =
+      let root : Fragment = record { kind = k; at = at } in
+      let long = length-all_fragments_of ts in
+      below_or_not i (sizes_of ts)
+      (λ h. node_then (all_fragment_sizes ts) ((1 + sizes_of ts) ∷ []) i (part_count x.kind)
+      (node_among ts i x counted.1 h
+      (is ∙ get_or_append_left (all_fragments_of ts) (root ∷ []) x i (omega arith))))
+      (λ h.
+      let place : length (all_fragments_of ts) ≡ i = omega arith in
+      let root_is : x ≡ root = is ∙ get_or_at (all_fragments_of ts) root [] x i place in
+      record {
+        before = [];
+        parts = ts;
+        after = [];
+        are = refl;
+        place = omega (arith, length-all_fragment_sizes ts);
+        many = counted.0 ∙ sym (ap (λ y. part_count y.kind) root_is);
+      })
 
-  -- behind subtrees, their sizes are complete
-  sizes_trees : (ts : Subtrees) (complete : List ℕ) (rest : List Fragment) → AreCounted ts
-      → sizes_from complete (all_fragments_of ts ++ rest)
-      ≡ all_fragment_sizes ts ++ sizes_from (complete ++ part_sizes ts) rest
-  sizes_trees no_parts complete rest counted =
-      ap (λ l. sizes_from l rest) (sym (append-nil complete))
-  sizes_trees (part_and t ts) complete rest counted =
-      let next = complete ++ size_of t ∷ [] in
-      let joined : next ++ part_sizes ts ≡ complete ++ (size_of t ∷ part_sizes ts) =
-      append_assoc complete (size_of t ∷ []) (part_sizes ts) in
-      ap (sizes_from complete) (append_assoc (fragments_of t) (all_fragments_of ts) rest)
-      ∙ sizes_tree t complete (all_fragments_of ts ++ rest) counted.0
-      ∙ ap (λ l. fragment_sizes t ++ l) (sizes_trees ts next rest counted.1)
-      ∙ ap (λ l. fragment_sizes t ++ (all_fragment_sizes ts ++ sizes_from l rest)) joined
-      ∙ sym (append_assoc (fragment_sizes t) (all_fragment_sizes ts)
-      (sizes_from (complete ++ part_sizes (part_and t ts)) rest))
+  -- and at each of subtrees
+  node_among : (ts : Subtrees) (i : ℕ) (x : Fragment) → AreCounted ts → i < sizes_of ts
+      → x ≡ get_or (all_fragments_of ts) i x → NodeAt (all_fragment_sizes ts) i (part_count x.kind)
+  node_among no_parts i x counted within is = absurd (omega arith)
+  node_among (part_and t ts) i x counted within is =
+      let long = length-fragments_of t in
+      let own = length-fragment_sizes t in
+      below_or_not i (size_of t)
+      (λ h. node_then (fragment_sizes t) (all_fragment_sizes ts) i (part_count x.kind)
+      (node_in t i x counted.0 h
+      (is ∙ get_or_append_left (fragments_of t) (all_fragments_of ts) x i (omega arith))))
+      (λ h. node_behind (fragment_sizes t) (all_fragment_sizes ts) i (i - size_of t)
+      (part_count x.kind)
+      (node_among ts (i - size_of t) x counted.1 (omega arith)
+      (is ∙ get_or-append_right (fragments_of t) (all_fragments_of ts) (size_of t) i x long h))
+      (omega arith))
 
--- the fragments of a whole tree have its sizes
-pub sizes_whole : (t : Subtree) (fragments : List Fragment) → IsCounted t → fragments ≡ fragments_of t
-    → sizes_from [] fragments ≡ fragment_sizes t
-sizes_whole t fragments counted e =
-    ap (sizes_from []) (e ∙ sym (append-nil (fragments_of t))) ∙ sizes_tree t [] [] counted
-    ∙ append-nil (fragment_sizes t)
+-- the sizes so far end in those of the next fragment's parts, and its own is the next
+pub record NextSize (sizes next : List ℕ) (count : ℕ) : Type 0 where
+  pub parts : Subtrees
+  pub last : EndIn sizes count parts
+  pub more : next ≡ sizes ++ (1 + sizes_of parts) ∷ []
+  pub few : count ≤ length sizes
+  pub within : sizes_of parts ≤ length sizes
 
--- a fragment that is read adds one to the sum of the complete sizes
-pub sum-closed : (count : ℕ) (complete : List ℕ) → sum (closed count complete) ≡ sum complete + 1
-sum-closed count complete =
-    let at = length complete - count in
-    omega (
-      arith,
-      sum_by_push (λ x. x) (take at complete) (1 + last_sum count complete),
-      sum_by-take-drop (λ x. x) complete at,
-    )
+-- so it is at each fragment x
+pub next_size : (t : Subtree) (all : List Fragment) (sizes : List ℕ) (i : ℕ) (x : Fragment)
+    → IsCounted t → all ≡ fragments_of t → i < length all → x ≡ get_or all i x
+    → sizes ≡ take i (fragment_sizes t)
+    → NextSize sizes (take (i + 1) (fragment_sizes t)) (part_count x.kind)
+next_size t all sizes i x counted e within is so_far =
+    let inside : i < size_of t = omega (arith, ap length e, length-fragments_of t) in
+    let node = node_in t i x counted inside (is ∙ ap (λ l. get_or l i x) e) in
+    let front = node.before ++ all_fragment_sizes node.parts in
+    let root = 1 + sizes_of node.parts in
+    let sizes_are : sizes ≡ front =
+    so_far ∙ ap (take i) node.are ∙ take_at front (root ∷ node.after) i node.place in
+    let root_is : get_or (fragment_sizes t) i 0 ≡ root =
+    ap (λ l. get_or l i 0) node.are ∙ get_or_at front root node.after 0 i node.place in
+    let long : length sizes ≡ length node.before + sizes_of node.parts =
+    ap length sizes_are ∙ length-append node.before (all_fragment_sizes node.parts)
+    ∙ ap (λ n. length node.before + n) (length-all_fragment_sizes node.parts) in
+    record {
+      parts = node.parts;
+      last = record { before = node.before; are = sizes_are; many = node.many };
+      more =
+          take_more (fragment_sizes t) i 0 (omega (arith, length-fragment_sizes t))
+          ∙ ap (λ l. l ++ get_or (fragment_sizes t) i 0 ∷ []) (sym so_far)
+          ∙ ap (λ n. sizes ++ n ∷ []) root_is;
+      few = omega (arith, node.many, length_within_sizes node.parts);
+      within = omega arith;
+    }
 
--- takes its parts from them, and puts its own size there
-length-closed : (count : ℕ) (complete : List ℕ)
-    → length (closed count complete) ≡ length complete - count + 1
-length-closed count complete =
-    let at = length complete - count in
-    let within : at ≤ length complete = omega arith in
-    omega (
-      arith,
-      length-append (take at complete) ((1 + last_sum count complete) ∷ []),
-      length-take-le at complete within,
-    )
-
--- the sizes of its parts are among them
-pub last_within : (count : ℕ) (complete : List ℕ) → last_sum count complete ≤ sum complete
-last_within count complete =
-    omega (arith, sum_by-take-drop (λ x. x) complete (length complete - count))
-
--- the next fragment and those behind it
-front : (all : List Fragment) (i : ℕ) (x : Fragment) → i < length all → x ≡ get_or all i x
-    → drop i all ≡ x ∷ drop (i + 1) all
-front all i x within is = drop_more all i x within ∙ ap (λ y. y ∷ drop (i + 1) all) (sym is)
-
--- finds its parts, as do those behind it
-pub next_ready : (complete : List ℕ) (all : List Fragment) (i : ℕ) (x : Fragment) → i < length all
-    → x ≡ get_or all i x
-    → AreReady (length complete) (drop i all)
-    → (part_count x.kind ≤ length complete)
-    × AreReady (length (closed (part_count x.kind) complete)) (drop (i + 1) all)
-next_ready complete all i x within is h =
-    let both = subst (λ l. AreReady (length complete) l) (front all i x within is) h in
-    (both.0, subst (λ n. AreReady n (drop (i + 1) all)) (sym (length-closed (part_count x.kind) complete)) both.1)
-
--- has its size before theirs
-pub next_sizes : (whole sizes complete : List ℕ) (all : List Fragment) (i : ℕ) (x : Fragment)
-    → i < length all → x ≡ get_or all i x
-    → whole ≡ sizes ++ sizes_from complete (drop i all)
-    → whole
-    ≡ (sizes ++ (1 + last_sum (part_count x.kind) complete) ∷ []) ++ sizes_from
-    (closed (part_count x.kind) complete) (drop (i + 1) all)
-next_sizes whole sizes complete all i x within is h =
-    let size = 1 + last_sum (part_count x.kind) complete in
-    h ∙ ap (λ l. sizes ++ sizes_from complete l) (front all i x within is)
-    ∙ sym (append_assoc sizes (size ∷ [])
-    (sizes_from (closed (part_count x.kind) complete) (drop (i + 1) all)))
-
--- where none is left, all sizes are found
-pub sizes_end : (t : Subtree) (all : List Fragment) (complete sizes : List ℕ) (i : ℕ) → IsCounted t
-    → all ≡ fragments_of t → length all ≤ i
-    → sizes_from [] all ≡ sizes ++ sizes_from complete (drop i all) → sizes ≡ fragment_sizes t
-sizes_end t all complete sizes i counted is past h =
-    sym (append-nil sizes) ∙ ap (λ l. sizes ++ sizes_from complete l) (sym (drop_all i all past))
-    ∙ sym h ∙ sizes_whole t all counted is
+-- where no fragment is left, all sizes are found
+pub sizes_end : (t : Subtree) (all : List Fragment) (i : ℕ) → all ≡ fragments_of t → length all ≤ i
+    → take i (fragment_sizes t) ≡ fragment_sizes t
+sizes_end t all i e past =
+    take_all i (fragment_sizes t)
+    (omega (arith, ap length e, length-fragments_of t, length-fragment_sizes t))

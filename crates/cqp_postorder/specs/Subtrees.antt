@@ -124,16 +124,17 @@ abbrev mutual
   AreCounted no_parts = Unit {0}
   AreCounted (part_and t ts) = IsCounted t × AreCounted ts
 
+-- the sizes end in those of the fragments of these subtrees, which are so many
+pub record EndIn (sizes : List ℕ) (count : ℕ) (ts : Subtrees) : Type 0 where
+  pub before : List ℕ
+  pub are : sizes ≡ before ++ all_fragment_sizes ts
+  pub many : length_of ts ≡ count
+
 -- subtrees that await their places, each with the number that its root gets; the last is placed
 -- first
 pub data Pending : Type 0 where
   nothing : Pending
   behind : Pending → (number : ℕ) → Subtree → Pending
-
--- how many nodes are pending
-abbrev pub pending_count : Pending → ℕ
-pending_count nothing = 0
-pending_count (behind ps n t) = pending_count ps + 1
 
 -- their numbers, their fragments, and the sizes of these
 abbrev pub pending_numbers : Pending → List ℕ
@@ -149,19 +150,3 @@ pending_fragments (behind ps n t) = pending_fragments ps ++ fragments_of t
 abbrev pub pending_sizes : Pending → List ℕ
 pending_sizes nothing = []
 pending_sizes (behind ps n t) = pending_sizes ps ++ fragment_sizes t
-
--- each ends where the next begins, and the last at this number
-abbrev pub AreAdjacent : ℕ → Pending → Type 0
-AreAdjacent end nothing = Unit {0}
-AreAdjacent end (behind ps n t) = (n + size_of t ≡ end) × AreAdjacent n ps
-
--- the sizes end in those of these subtrees, which are so many and end at this number
-pub record AreLast (sizes : List ℕ) (end count : ℕ) (ps : Pending) : Type 0 where
-  pub before : List ℕ
-  pub are : sizes ≡ before ++ pending_sizes ps
-  pub counted : pending_count ps ≡ count
-  pub adjacent : AreAdjacent end ps
-
--- the size behind the others
-abbrev pub IsLastSize : ℕ → List ℕ → Type 0
-IsLastSize size sizes = (front : List ℕ) (last : ℕ) → sizes ≡ front ++ last ∷ [] → size ≡ last

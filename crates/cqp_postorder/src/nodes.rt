@@ -1,10 +1,11 @@
 //! The nodes of a process's lists, from their fragments.
 
-ghost use Rattle.std.specs.Prelude.{◌≡◌, length, IfOk};
+ghost use Rattle.std.specs.Prelude.{◌≡◌, ◌+◌, length, IfOk};
+ghost use Rattle.cqp_program.specs.declared.fragment.Kind.TheVariants.{Out};
 ghost use Rattle.cqp_postorder.specs.Subtrees.{part_count, node_with};
 
 use crate::NoMemory;
-use cqp_program::{Kind, TreeNode};
+use cqp_program::{Kind, Occ, TreeNode};
 use cqp_syntax::Names;
 use std::alloc::Global;
 
@@ -37,11 +38,7 @@ pub(crate) fn node_of(alloc: Global, kind: Kind, parts: &[u32]) -> Result<TreeNo
             params,
             body: parts[0],
         },
-        Kind::Out { chan, args } => TreeNode::Out {
-            chan,
-            args: Names::from_vec(Vec::from_slice(alloc, &parts[..args])?),
-            body: parts[args],
-        },
+        Kind::Out { chan, args } => output(alloc, chan, args, parts)?,
         Kind::If => TreeNode::If {
             left: parts[0],
             right: parts[1],
@@ -63,5 +60,18 @@ pub(crate) fn node_of(alloc: Global, kind: Kind, parts: &[u32]) -> Result<TreeNo
         },
         Kind::Measure { qubits } => TreeNode::Measure { qubits },
         Kind::Call { name, args } => TreeNode::Call { name, args },
+    })
+}
+
+/// The node of an output whose parts, so many arguments and the body, have these numbers.
+fn output(alloc: Global, chan: Occ, args: usize, parts: &[u32]) -> Result<TreeNode, NoMemory>
+    requires { length parts.now ≡ args + 1 }
+    ensures { IfOk result (λ node. node ≡ node_with (Out chan args) parts.now) }
+{
+    let numbers = Vec::from_slice(alloc, &parts[..args])?;
+    Ok(TreeNode::Out {
+        chan,
+        args: Names::from_vec(numbers),
+        body: parts[args],
     })
 }

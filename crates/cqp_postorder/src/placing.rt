@@ -3,7 +3,7 @@
 
 ghost use Rattle.std.specs.Prelude.{◌≡◌, ◌<◌, ◌^◌, List, [], ◌∷◌, ◌++◌, length, replicate};
 ghost use Rattle.std.specs.Prelude.{IfOk, OnOk};
-ghost use Rattle.cqp_program.specs.declared.tree.TreeNode.TheVariants.{Nil};
+ghost use Rattle.cqp_program.specs.declared.tree.TreeNode.TheVariants.{Unit};
 ghost use Rattle.cqp_program.specs.declared.fragment.Fragment.{Fragment};
 ghost use Rattle.cqp_postorder.specs.Subtrees.{Subtree, IsCounted, fragments_of, part_count};
 ghost use Rattle.cqp_postorder.specs.Subtrees.{nodes_of, offsets_of};
@@ -15,6 +15,7 @@ use crate::sizes::{part_count, subtree_sizes};
 use cqp_program::{Fragment, Tree, TreeNode, TreeNodes};
 use cqp_syntax::Names;
 use std::alloc::Global;
+use std::mem;
 
 /// The lists so far, and what is known of the fragments that are left.
 #[derive(Drop)]
@@ -39,7 +40,7 @@ impl Placing {
     {
         let sizes = subtree_sizes(alloc, fragments)?;
         let pending = vec![in alloc; 0]?;
-        let nodes = nils(alloc, fragments.len())?;
+        let nodes = units(alloc, fragments.len())?;
         let at = vec![in alloc; 0; fragments.len()]?;
         Ok(Placing {
             sizes,
@@ -62,7 +63,8 @@ impl Placing {
         let n = self.take(count)?;
         let parts = &self.pending[self.pending.len() - count..];
         let node = node_of(alloc, kind, parts)?;
-        self.nodes[n as usize] = node;
+        // What stood there is `unit`, which owns nothing.
+        mem::forget(mem::replace(&mut self.nodes[n as usize], node));
         self.at[n as usize] = at;
         Ok(())
     }
@@ -77,7 +79,8 @@ impl Placing {
     {
         let size = self.sizes.pop().unwrap();
         let n = self.pending.pop().unwrap();
-        find_parts(&mut self.pending, self.sizes.as_slice(), n + size, count)?;
+        let end = n + size;
+        find_parts(&mut self.pending, self.sizes.as_slice(), n + 1, end, count)?;
         Ok(n)
     }
 
@@ -94,13 +97,13 @@ impl Placing {
     }
 }
 
-/// So many nodes, each of which is `0`.
-fn nils(alloc: Global, count: usize) -> Result<Vec<TreeNode>, NoMemory>
-    ensures { IfOk result (λ nodes. nodes.items ≡ replicate count Nil) }
+/// So many nodes, each of which is `unit` until its own is placed.
+fn units(alloc: Global, count: usize) -> Result<Vec<TreeNode>, NoMemory>
+    ensures { IfOk result (λ nodes. nodes.items ≡ replicate count Unit) }
 {
     let mut nodes = Vec::with_capacity(alloc, count)?;
     for _ in 0..count {
-        nodes.push(TreeNode::Nil)?;
+        nodes.push_reserved(TreeNode::Unit);
     }
     Ok(nodes)
 }

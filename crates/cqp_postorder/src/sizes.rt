@@ -1,9 +1,9 @@
 //! How many nodes each fragment of a process is with all nodes below it, found from the first
 //! fragment to the last.
 
-ghost use Rattle.std.specs.Prelude.{◌≡◌, ◌≤◌, ◌<◌, ◌^◌, ◌-◌, length, take, drop, sum, IfOk};
-ghost use Rattle.cqp_postorder.specs.Subtrees.{Subtree, IsCounted, part_count};
-ghost use Rattle.cqp_postorder.specs.Subtrees.{fragments_of, fragment_sizes};
+ghost use Rattle.std.specs.Prelude.{◌≡◌, ◌<◌, ◌^◌, ◌-◌, length, slice_index, IfOk};
+ghost use Rattle.cqp_postorder.specs.Subtrees.{Subtree, Subtrees, IsCounted, EndIn, part_count};
+ghost use Rattle.cqp_postorder.specs.Subtrees.{fragments_of, fragment_sizes, sizes_of};
 
 use crate::NoMemory;
 use cqp_program::{Fragment, Kind};
@@ -16,28 +16,33 @@ pub(crate) fn subtree_sizes(alloc: Global, fragments: &[Fragment]) -> Result<Vec
     ensures { (t : Subtree) → IsCounted t → fragments.now ≡ fragments_of t
         → IfOk result (λ sizes. sizes.items ≡ fragment_sizes t) }
 {
-    // The sizes of the subtrees that no fragment so far has as a part.
-    let mut complete = Vec::new(alloc);
     let mut sizes = Vec::with_capacity(alloc, fragments.len())?;
     for fragment in fragments {
-        let size = 1 + take_last(&mut complete, part_count(&fragment.kind));
-        complete.push(size)?;
-        sizes.push(size)?;
+        let parts = parts_size(sizes.as_slice(), part_count(&fragment.kind));
+        sizes.push_reserved(1 + parts);
     }
     Ok(sizes)
 }
 
-/// Takes the last so many sizes, and answers their sum.
-fn take_last(sizes: &mut Vec<u32>, count: usize) -> u32
-    requires enough { count ≤ length sizes.old.items }
-    requires fits { sum sizes.old.items < 2 ^ 31 }
-    ensures rest { sizes.new.items ≡ take (length sizes.old.items - count) sizes.old.items }
-    ensures total { result ≡ sum (drop (length sizes.old.items - count) sizes.old.items) }
+/// How many nodes the last so many subtrees have. The sizes end in those of their fragments.
+fn parts_size(sizes: &[u32], count: usize) -> u32
+    requires last { (ts : Subtrees) × EndIn sizes.now count ts }
+    requires few { length sizes.now < 2 ^ 31 }
+    ensures { (ts : Subtrees) → EndIn sizes.now count ts → result ≡ sizes_of ts }
 {
-    let kept = sizes.len() - count;
-    let total = sizes[kept..].iter().sum();
-    sizes.truncate(kept);
+    let mut total = 0;
+    for _ in 0..count {
+        total += size_before(sizes, total);
+    }
     total
+}
+
+/// The size that stands right before the last so many.
+pub(crate) fn size_before(sizes: &[u32], last: u32) -> u32
+    requires { last < length sizes.now }
+    ensures { result ≡ slice_index sizes.now (length sizes.now - 1 - last) }
+{
+    sizes[sizes.len() - 1 - last as usize]
 }
 
 /// How many parts a node of this kind has.

@@ -1,9 +1,10 @@
 //! The nodes of a process as they are read, in postorder: each stands behind its parts, and names
 //! none of them by number.
 
-use crate::program::{Occ, Occs, Params, TyTree};
+use crate::occs::Occs;
+use crate::program::{Occ, Params, TyTree};
+use cqp_grammar::NameText;
 use cqp_lists::List;
-use cqp_outside::Bytes;
 use cqp_syntax::Op;
 
 /// A node that was read, and its offset.
@@ -27,13 +28,13 @@ pub enum Kind {
     If,
     Num { v: u32 },
     Unit,
-    Name { name: Bytes },
+    Name { name: NameText },
     Gate { op: Op },
     Sig,
     Add,
     Apply { qubits: Occs },
     Measure { qubits: Occs },
-    Call { name: Bytes, args: Occs },
+    Call { name: NameText, args: Occs },
 }
 
 /// A list of fragments.

@@ -1,8 +1,8 @@
 //! Programs before their definitions are expanded: what they bind and what they name.
 
 use crate::tree::Tree;
+use cqp_grammar::NameText;
 use cqp_lists::List;
-use cqp_outside::Bytes;
 use cqp_syntax::Types;
 use std::marker::Model;
 
@@ -30,7 +30,7 @@ impl Model for Program {
 /// A definition. `at` is the offset of its name.
 #[derive(Debug, Drop)]
 pub struct Def {
-    pub name: Bytes,
+    pub name: NameText,
     pub at: u32,
     pub params: Params,
     pub body: Tree,
@@ -39,7 +39,7 @@ pub struct Def {
 /// A parameter of a definition or of an input. `at` is the offset of its name.
 #[derive(Debug, Drop)]
 pub struct Param {
-    pub name: Bytes,
+    pub name: NameText,
     pub at: u32,
     pub ty: TyTree,
 }
@@ -47,7 +47,7 @@ pub struct Param {
 /// A name where it stands. `at` is its offset.
 #[derive(Debug, Drop)]
 pub struct Occ {
-    pub name: Bytes,
+    pub name: NameText,
     pub at: u32,
 }
 
@@ -62,6 +62,3 @@ pub type Defs = List<Def>;
 
 /// A list of parameters.
 pub type Params = List<Param>;
-
-/// A list of names.
-pub type Occs = List<Occ>;

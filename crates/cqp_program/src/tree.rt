@@ -1,8 +1,9 @@
 //! The process of a program text as lists.
 
-use crate::program::{Occ, Occs, Params, TyTree};
+use crate::occs::Occs;
+use crate::program::{Occ, Params, TyTree};
+use cqp_grammar::NameText;
 use cqp_lists::List;
-use cqp_outside::Bytes;
 use cqp_syntax::{Names, Op};
 
 /// The nodes of a process in preorder, number 0 the root, and the offset of each.
@@ -55,7 +56,7 @@ pub enum TreeNode {
     },
     Unit,
     Name {
-        name: Bytes,
+        name: NameText,
     },
     Gate {
         op: Op,
@@ -75,7 +76,7 @@ pub enum TreeNode {
         qubits: Occs,
     },
     Call {
-        name: Bytes,
+        name: NameText,
         args: Occs,
     },
 }

@@ -1,7 +1,6 @@
 //! What `)`, `]`, `}`, `;` and the end of the text do, by what is awaited.
 
 ghost use Rattle.std.specs.Prelude.{◌≡◌, ◌<◌, ◌^◌, IfOk, Some};
-ghost use Rattle.std.specs.Option.{option_map};
 ghost use Rattle.std.specs.Bool.{then_some};
 ghost use Rattle.cqp_syntax.specs.declared.ty.Ty.TheVariants as ty;
 ghost use Rattle.cqp_reading.specs.declared.awaits.Awaits.TheVariants as awaits;

@@ -145,7 +145,5 @@ fn nil_read(
 pub(crate) fn one(alloc: Global, name: Occ) -> Result<Occs, NoMemory>
     ensures { IfOk result (λ names. names ≡ name ∷ []) }
 {
-    let mut names = Occs::with_capacity(alloc, 1)?;
-    names.push(name)?;
-    Ok(names)
+    more(Occs::new(alloc), name)
 }

@@ -20,7 +20,7 @@ use crate::names::one;
 use crate::standing::{atom_place, expr_read, go_on, into, prefix_place};
 use crate::types::{open_chan, type_followed, type_place};
 use cqp_grammar::SymbolKind;
-use cqp_program::{Kind, Occ, Occs};
+use cqp_program::{Kind, Occs};
 
 /// `(`, with its offset.
 pub(crate) fn at_open(

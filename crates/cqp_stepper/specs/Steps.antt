@@ -1,6 +1,6 @@
 -- What a deed of one part makes of what a run keeps.
 use Rattle.std.specs.Prelude.{◌≡◌, ◌+◌, ◌^◌, ◌<◌, ◌≤◌, ℕ, List, [], ◌∷◌, ◌++◌, Bool}
-use Rattle.std.specs.Prelude.{Option, Some, None, true, false, length}
+use Rattle.std.specs.Prelude.{Some, None, true, false, length}
 use Rattle.std.specs.List.{list_all}
 use Rattle.cqp_book.specs.Keys.{has}
 use Rattle.cqp_syntax.specs.declared.op.Op.{Op}
@@ -10,7 +10,6 @@ use Rattle.cqp_machine.specs.Factors.{Held, places_in, state_of}
 use Rattle.cqp_machine.specs.Sums.{levels}
 use Rattle.cqp_standing.specs.Stands.{Stands}
 use Rattle.cqp_syntax.specs.declared.val.Val.{Val}
-use Rattle.cqp_syntax.specs.declared.val.Val.TheVariants as val
 use Rattle.cqp_syntax.specs.Listing.{Listing}
 use Rattle.cqp_syntax.specs.Trees.{Process}
 use Rattle.cqp_trace.specs.declared.deed.Deed.{Deed}
@@ -55,6 +54,16 @@ pub record IsMade (s t : Cells) (n : ℕ) (d : Deed) (parts : List Part) : Type 
   pub chans : t.counts.chans ≡ s.counts.chans + chans_by d
   pub turns : t.counts.turns ≡ s.counts.turns + turns_by d
 
+-- the counts grew by part n's deed, and how the part stands, and parts from here on, is unseen
+abbrev pub counted : ℕ → Deed → Cells → Cells
+counted n d s = record s {
+  unseen = record { first = Some n; second = None; from = s.counts.parts };
+  counts = record s.counts {
+    chans = s.counts.chans + chans_by d;
+    turns = s.counts.turns + turns_by d;
+  };
+}
+
 -- a part that stands there may go on by the deed, in places and counts that have room
 pub record CanMakeParts (l : Listing) (s : Cells) (n : ℕ) (d : Deed) : Type 0 where
   pub part : Part
@@ -65,18 +74,6 @@ pub record CanMakeParts (l : Listing) (s : Cells) (n : ℕ) (d : Deed) : Type 0 
   pub places : length s.slots < 2 ^ 32
   pub chans : s.counts.chans + 1 < 2 ^ 32
   pub turns : s.counts.turns + 1 < 2 ^ 64
-
--- the value that a deed gives a redex of its part, if it is of a redex
-abbrev pub result_of : Deed → Option Val
-result_of (deed.Qbit q) = None
-result_of (deed.New k) = None
-result_of deed.Act = None
-result_of (deed.Add v) = Some (val.Num v)
-result_of (deed.Pick o) = Some (val.Gate o)
-result_of (deed.Gate o qs) = Some val.Unit
-result_of (deed.Measure qs m) = Some (val.Num m)
-result_of (deed.Com to k) = None
-result_of (deed.If answer) = None
 
 -- it went on by the deed
 abbrev pub HasMadeParts : Listing → Cells → Cells → ℕ → Deed → Type 0

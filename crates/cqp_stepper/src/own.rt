@@ -1,18 +1,17 @@
 //! Deeds of one part.
 
 ghost use Rattle.std.specs.Prelude.{◌≡◌, ◌+◌, ◌<◌, ◌≤◌, ◌^◌, length, IfOk, OnErr, OnOk, None, Some};
-ghost use Rattle.std.specs.Prelude.{[], ◌∷◌, slice_set, false, true};
+ghost use Rattle.std.specs.Prelude.{slice_set, false, true};
 ghost use Rattle.cqp_cells.specs.Examples.{by};
 ghost use Rattle.cqp_machine.specs.Fronts as fronts;
 ghost use Rattle.cqp_parts.specs.declared.part.Part.{Part as Seen};
-ghost use Rattle.cqp_parts.specs.Parts.{more_than_one, parts_after, with_result_of};
+ghost use Rattle.cqp_parts.specs.Parts.{more_than_one, parts_after};
 ghost use Rattle.cqp_standing.specs.Stands.{Stands};
 ghost use Rattle.cqp_stepper.specs.Kept.{IsAllSeen, IsRunOf};
 ghost use Rattle.cqp_stepper.specs.Slots.{part_in};
 ghost use Rattle.cqp_stepper.specs.Steps.{CanMakeParts, GoesOnTo, HasGroupsOf, HasMadeParts};
 ghost use Rattle.cqp_stepper.specs.Steps.{HasRoomFor, IsGathered, IsMade, IsUnlikely, MayMake};
-ghost use Rattle.cqp_stepper.specs.Steps.{is_plain};
-ghost use Rattle.cqp_stepper.specs.Steps as steps;
+ghost use Rattle.cqp_stepper.specs.Steps.{counted, is_plain};
 ghost use Rattle.cqp_stepper.specs.Gathering.{HasGathered};
 ghost use Rattle.cqp_trace.specs.declared.deed.Deed.TheVariants as deeds;
 
@@ -20,7 +19,7 @@ use crate::cells::{Cells, Unseen};
 use crate::laws::make_laws;
 use crate::tables::Tables;
 use cqp_onward::Parts;
-use cqp_syntax::{Names, NoMemory, Op, Val};
+use cqp_syntax::{Names, NoMemory, Op};
 use cqp_trace::Deed;
 use std::alloc::{AllocError, Global};
 
@@ -80,13 +79,22 @@ impl Cells {
         ensures made { IsMade self.old self.new n deed.now parts }
         ensures groups { HasGroupsOf self.old self.new }
     {
-        let from = self.counts.parts;
+        self.count(n, deed);
+        self.counts.parts += self.slots.place(n, self.counts.parts, parts);
+    }
+
+    // Counts what a deed of part n makes. How the part stands then, and those that are new, is
+    // unseen.
+    fn count(&mut self, n: u32, deed: &Deed)
+        requires chans { self.old.counts.chans + 1 < 2 ^ 32 }
+        requires turns { self.old.counts.turns + 1 < 2 ^ 64 }
+        ensures { self.new ≡ counted n deed.now self.old }
+    {
         self.unseen = Unseen {
             first: Some(n),
             second: None,
-            from,
+            from: self.counts.parts,
         };
-        self.counts.parts += self.slots.place(n, from, parts);
         self.counts.chans += chans_by(deed);
         self.counts.turns += turns_by(deed);
     }
@@ -105,34 +113,14 @@ impl Cells {
         ensures groups { OnOk result (HasGroupsOf self.old self.new) }
         ensures err { OnErr result (self.new ≡ self.old) }
     {
-        match result_of(deed) {
-            Some(val) => self.make_result(n, deed, val),
-            None => self.move_on(tables, alloc, n, deed),
+        if self.move_alone(tables, alloc, n, deed)? {
+            return Ok(());
         }
+        self.move_apart(tables, alloc, n, deed)
     }
 
-    // The part itself goes on, with one redex more reduced.
-    fn make_result(&mut self, n: u32, deed: &Deed, val: Val) -> Result<(), NoMemory>
-        requires place { n < length self.old.slots }
-        requires turns { self.old.counts.turns + 1 < 2 ^ 64 }
-        requires chans { fronts.chans_by deed.now ≡ 0 }
-        ensures made { OnOk result ((part : Seen) → part_in self.old.slots n ≡ Some part
-            → IsMade self.old self.new n deed.now (with_result_of part val ∷ [])) }
-        ensures groups { OnOk result (HasGroupsOf self.old self.new) }
-        ensures err { OnErr result (self.new ≡ self.old) }
-    {
-        self.slots.add_result(n, val)?;
-        self.unseen = Unseen {
-            first: Some(n),
-            second: None,
-            from: self.counts.parts,
-        };
-        self.counts.turns += turns_by(deed);
-        Ok(())
-    }
-
-    // The parts go on that stand in the place of the part.
-    fn move_on(
+    // The part is taken out, and the parts go on that stand in its place.
+    fn move_apart(
         &mut self,
         tables: &Tables,
         alloc: Global,
@@ -147,6 +135,29 @@ impl Cells {
         let parts = self.go_on(tables, alloc, n, deed)?;
         self.finish(n, deed, parts);
         Ok(())
+    }
+
+    // The part itself goes on, in its place, where it alone comes behind the deed, and the answer
+    // is `true`. Else nothing changes, and it is `false`.
+    fn move_alone(
+        &mut self,
+        tables: &Tables,
+        alloc: Global,
+        n: u32,
+        deed: &Deed,
+    ) -> Result<bool, NoMemory>
+        requires { CanMakeParts tables.now self.old n deed.now }
+        ensures made { IfOk result (λ went. went ≡ true
+            → HasMadeParts tables.now self.old self.new n deed.now) }
+        ensures groups { OnOk result (HasGroupsOf self.old self.new) }
+        ensures stays { IfOk result (λ went. went ≡ false → self.new ≡ self.old) }
+        ensures err { OnErr result (self.new ≡ self.old) }
+    {
+        if !self.slots.go_on_alone(tables, alloc, n, deed)? {
+            return Ok(false);
+        }
+        self.count(n, deed);
+        Ok(true)
     }
 
     /// Makes a deed of a part that is of no group. A refused one leaves all as it was, here and
@@ -263,21 +274,6 @@ impl Cells {
             .measured_at(group, due, places.as_slice(), outcome);
         self.due = Some(group);
         Ok(true)
-    }
-}
-
-// The value that a deed gives a redex of its part, if it is of a redex.
-fn result_of(deed: &Deed) -> Option<Val>
-    ensures { result ≡ steps.result_of deed.now }
-{
-    match deed {
-        Deed::Add { v } => Some(Val::Num { v: *v }),
-        Deed::Pick { op } => Some(Val::Gate { op: *op }),
-        Deed::Gate { .. } => Some(Val::Unit),
-        Deed::Measure { outcome, .. } => Some(Val::Num { v: *outcome }),
-        Deed::Qbit { .. } | Deed::New { .. } | Deed::Act | Deed::Com { .. } | Deed::If { .. } => {
-            None
-        }
     }
 }
 

@@ -1,18 +1,21 @@
 //! The parts of a run, by number. The places are made once, so that parts come and go without
 //! memory. Contracts see a list with a place for each number below its length, the room.
 
-ghost use Rattle.std.specs.Prelude.{◌≡◌, ◌+◌, ◌^◌, ◌<◌, ◌≤◌, ℕ, IfOk, None, OnErr, OnOk, Some};
-ghost use Rattle.std.specs.Prelude.{length, slice_set};
+ghost use Rattle.std.specs.Prelude.{◌≡◌, ◌+◌, ◌^◌, ◌<◌, ◌≤◌, ℕ, IfOk, None, OnErr, Some};
+ghost use Rattle.std.specs.Prelude.{false, length, slice_set, true};
 ghost use Rattle.std.specs.Option.{option_map};
 ghost use Rattle.cqp_machine.specs.After.{placed, placed_from};
 ghost use Rattle.cqp_parts.specs.declared.part.Part.{Part as Seen};
-ghost use Rattle.cqp_parts.specs.Parts.{more_than_one, with_result_of};
-ghost use Rattle.cqp_stepper.specs.Slots.{part_in};
+ghost use Rattle.cqp_parts.specs.Parts.{more_than_one};
+ghost use Rattle.cqp_standing.specs.Stands.{Stands};
+ghost use Rattle.cqp_stepper.specs.Slots.{part_in, HasGoneOn};
 
+use crate::tables::Tables;
 use cqp_onward::Parts;
 use cqp_parts::Part;
-use cqp_syntax::{NoMemory, Val};
-use std::alloc::{AllocError, Global};
+use cqp_syntax::NoMemory;
+use cqp_trace::Deed;
+use std::alloc::Global;
 use std::marker::Model;
 use std::mem;
 
@@ -68,16 +71,26 @@ impl Slots {
         self.places[n as usize] = part;
     }
 
-    /// One value more for the redexes of a part that is there.
-    pub(crate) fn add_result(&mut self, n: u32, val: Val) -> Result<(), NoMemory>
-        requires { n < length self.old }
-        ensures done { OnOk result ((part : Seen) → part_in self.old n ≡ Some part
-            → self.new ≡ slice_set self.old n (Some (with_result_of part val))) }
+    /// Where one part alone comes behind a deed of part n, the part goes on there, in its place,
+    /// and the answer is `true`. Else nothing changes, and it is `false`.
+    pub(crate) fn go_on_alone(
+        &mut self,
+        tables: &Tables,
+        alloc: Global,
+        n: u32,
+        deed: &Deed,
+    ) -> Result<bool, NoMemory>
+        requires place { n < length self.old }
+        requires stands { (part : Seen) → part_in self.old n ≡ Some part
+            → Stands tables.now part }
+        ensures went { IfOk result (λ went. went ≡ true
+            → HasGoneOn tables.now self.old self.new n deed.now) }
+        ensures stays { IfOk result (λ went. went ≡ false → self.new ≡ self.old) }
         ensures err { OnErr result (self.new ≡ self.old) }
     {
         match &mut self.places[n as usize] {
-            Some(part) => part.vals.push(val),
-            None => Err(AllocError),
+            Some(part) => tables.go_on_alone(alloc, part, deed),
+            None => Ok(false),
         }
     }
 

@@ -1,7 +1,7 @@
 //! A checked process with the tables that a run of it asks. Contracts see the process.
 
 ghost use Rattle.std.specs.Prelude.{◌≡◌, ◌↔◌, ◌<◌, ◌^◌, ℕ, IfErr, IfOk, IsSome, IsTrue, Some};
-ghost use Rattle.std.specs.Prelude.{length};
+ghost use Rattle.std.specs.Prelude.{[], ◌∷◌, false, length, true, OnErr};
 ghost use Rattle.cqp_syntax.specs.Listing.{IsProc};
 ghost use Rattle.cqp_trace.specs.declared.deed.Deed.TheVariants as deed;
 ghost use Rattle.cqp_cells.specs.Lawful.{IsBeforeH};
@@ -14,7 +14,7 @@ ghost use Rattle.cqp_turns.specs.Turns.{turn_in};
 ghost use Rattle.cqp_types.specs.Checked.{IsChecked};
 
 use cqp_fitting::communication_laws;
-use cqp_onward::{Ahead, Parts, Refused, go_on, look_ahead, opening, receive};
+use cqp_onward::{Ahead, Parts, Refused, go_on, go_on_alone, look_ahead, opening, receive};
 use cqp_order::Stand;
 use cqp_parts::{Part, Vals};
 use cqp_redexes::Redexes;
@@ -134,6 +134,23 @@ impl<'p> Tables<'p> {
         ensures err { IfErr result (λ e. e.part ≡ part) }
     {
         go_on(self.typed.proc(), &self.uses, alloc, part, deed)
+    }
+
+    /// Where one part alone comes behind a deed of its own, the part goes on there, in its place,
+    /// and the answer is `true`. Else nothing changes, and it is `false`.
+    pub(crate) fn go_on_alone(
+        &self,
+        alloc: Global,
+        part: &mut Part,
+        deed: &Deed,
+    ) -> Result<bool, NoMemory>
+        requires { Stands self.now part.old }
+        ensures went { IfOk result (λ went. went ≡ true
+            → parts_after self.now part.old deed.now ≡ part.new ∷ []) }
+        ensures stays { IfOk result (λ went. went ≡ false → part.new ≡ part.old) }
+        ensures err { OnErr result (part.new ≡ part.old) }
+    {
+        go_on_alone(self.typed.proc(), &self.uses, alloc, part, deed)
     }
 
     /// The parts in the place of a receiver.

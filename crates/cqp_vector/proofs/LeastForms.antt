@@ -25,7 +25,7 @@ one_times : (x : Amp) → amp_product one_amp x ≡ x
 one_times x = same_amp (omega (arith, ints)) (omega (arith, ints)) (omega (arith, ints)) (omega (arith, ints))
 
 -- so for a list
-all_one_times : (xs : List Amp) → map (amp_product one_amp) xs ≡ xs
+pub all_one_times : (xs : List Amp) → map (amp_product one_amp) xs ≡ xs
 all_one_times [] = refl
 all_one_times (x ∷ xs) = ap (λ t. t ∷ map (amp_product one_amp) xs) (one_times x) ∙ ap (λ t. x ∷ t) (all_one_times xs)
 

@@ -1,3 +1,4 @@
+mod Agreeing
 pub mod AgreeingPlaces
 pub mod Bits
 pub mod Bounds
@@ -28,6 +29,7 @@ pub mod PlaceBits
 pub mod ProductLemmas
 pub mod ProductTools
 pub mod Ring
+mod Rows
 pub mod StateNorms
 pub mod SumBounds
 pub mod Sums

@@ -1,4 +1,4 @@
-use Rattle.std.proofs.Common.{ℕ, subst, sym, ap, length}
+use Rattle.std.proofs.Common.{ℕ, subst, sym}
 use Rattle.cqp_grammar.specs.declared.lexeme.Lexeme.TheVariants.{Whole}
 use Rattle.cqp_grammar.specs.declared.token.Token.TheVariants.{Symbol}
 use Rattle.cqp_grammar.specs.Lexemes.{Advances}
@@ -8,7 +8,7 @@ use Rattle.cqp_grammar.proofs.lexeme.symbol.Goals as goal
 pub returns-in-Some : goal.returns-in-Some
 returns-in-Some c =
     let f = λ (n : ℕ). Advances c.args.at c.args.bytes.now (Whole (Symbol c.in-Some.symbol c.args.at) n) in
-    subst f (sym (ap length c.symbol_text.ensures)) (symbol_lexeme c.args.at c.args.bytes.now c.in-Some.symbol c.in-Some.ensures)
+    subst f (sym c.symbol_len.ensures) (symbol_lexeme c.args.at c.args.bytes.now c.in-Some.symbol c.in-Some.ensures)
 
 pub returns-in-None : goal.returns-in-None
 returns-in-None c =

@@ -1,20 +1,18 @@
-use Rattle.std.proofs.Common.{◌∙◌, ap, sym, subst, nat_eq, MatchOption, Option}
-use Rattle.std.specs.List.{starts_with}
+use Rattle.std.proofs.Common.{◌∙◌, sym, subst, MatchOption, Option}
 use Rattle.cqp_grammar.specs.Lexemes.{Begins, NoneBegins}
 use Rattle.cqp_grammar.specs.Spelling.{symbol_text}
 use Rattle.cqp_grammar.specs.declared.token.SymbolKind.{SymbolKind}
 use Rattle.cqp_grammar.proofs.Tables.{begins_from_test, none_begins, only_one_begins}
 use Rattle.cqp_grammar.proofs.spelling.first_symbol.Goals as goal
 
-pub returns-then-starts_with : goal.returns-then-starts_with
-returns-then-starts_with c =
-    begins_from_test c.args.bytes.now c.in_ok-symbol.symbol c.starts_with.result
-    (c.starts_with.ensures.value ∙ ap (starts_with nat_eq c.args.bytes.now) c.symbol_text.ensures) c.if-starts_with.true
+pub returns-then-is_whole : goal.returns-then-is_whole
+returns-then-is_whole c =
+    begins_from_test c.args.bytes.now c.in_ok-symbol.symbol c.is_whole.result c.is_whole.ensures c.if-is_whole.true
 
-pub returns-else-starts_with : goal.returns-else-starts_with
-returns-else-starts_with c =
+pub returns-else-is_whole : goal.returns-else-is_whole
+returns-else-is_whole c =
     only_one_begins c.args.bytes.now c.in_ok-symbol.symbol (sym c.symbol_from.ensures ∙ c.in_ok-symbol.was)
-    (sym (c.starts_with.ensures.value ∙ ap (starts_with nat_eq c.args.bytes.now) c.symbol_text.ensures) ∙ c.if-starts_with.false)
+    (sym c.is_whole.ensures ∙ c.if-is_whole.false)
 
 pub returns-in_err-symbol : goal.returns-in_err-symbol
 returns-in_err-symbol c =

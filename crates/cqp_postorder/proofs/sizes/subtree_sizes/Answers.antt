@@ -1,64 +1,54 @@
-use Rattle.std.proofs.Common.{◌≡◌, ◌+◌, arith, refl, ◌∙◌, ap}
-use Rattle.cqp_postorder.specs.Subtrees.{part_count}
-use Rattle.cqp_postorder.proofs.Sizing.{ready_whole, next_ready, next_sizes, closed, sum-closed}
-use Rattle.cqp_postorder.proofs.Sizing.{last_sum, last_within, sizes_end}
+use Rattle.std.proofs.Common.{arith, ◌∙◌, ap, length, length-append, sym}
+use Rattle.cqp_postorder.proofs.Sizing.{next_size, sizes_end}
 use Rattle.cqp_postorder.proofs.sizes.subtree_sizes.Goals as goal
 
 pub loop-fragment-init : goal.loop-fragment-init
-loop-fragment-init c =
-    let one = c.requires.one in
-    rw (c.new-complete.ensures.items, c.in_ok-sizes.ensures.items)
-    (record {
-      ready = ready_whole one.0 c.args.fragments.now one.1 one.2;
-      rest = refl;
-      read = refl;
-    })
+loop-fragment-init c = record {
+  sized = λ t counted is. c.in_ok-sizes.ensures.items;
+  many = ap length c.in_ok-sizes.ensures.items;
+  room = omega (arith, c.in_ok-sizes.ensures.capacity);
+}
 
 pub part_count-requires : goal.part_count-requires
 part_count-requires c =
-    let fits =
-    next_ready _ _ _ _ c.loop-fragment-test.true c.fragment-item.is
-    c.loop-fragment.invariant.ready in
-    omega (arith, fits.0, c.loop-fragment.complete.ok.0)
+    let one = c.requires.one in
+    let next =
+    next_size one.0 _ _ _ _ one.1 one.2 c.loop-fragment-test.true c.fragment-item.is
+    (c.loop-fragment.invariant.sized one.0 one.1 one.2) in
+    omega (arith, next.few, c.loop-fragment.invariant.many, c.requires.few)
 
-pub take_last-size-requires-clause-enough : goal.take_last-size-requires-clause-enough
-take_last-size-requires-clause-enough c =
-    let fits =
-    next_ready _ _ _ _ c.loop-fragment-test.true c.fragment-item.is
-    c.loop-fragment.invariant.ready in
-    omega (arith, c.part_count.ensures, fits.0)
+pub parts_size-parts-requires-clause-last : goal.parts_size-parts-requires-clause-last
+parts_size-parts-requires-clause-last c =
+    let one = c.requires.one in
+    let next =
+    next_size one.0 _ _ _ _ one.1 one.2 c.loop-fragment-test.true c.fragment-item.is
+    (c.loop-fragment.invariant.sized one.0 one.1 one.2) in
+    rw (c.as_slice.ensures.value, c.part_count.ensures) (next.parts, next.last)
 
-pub overflow_add-size : goal.overflow_add-size
-overflow_add-size c =
-    let within = last_within c.part_count.result c.loop-fragment.complete.items in
-    omega (
-      arith,
-      within,
-      c.take_last-size.ensures.total,
-      c.loop-fragment.invariant.read,
-      c.requires.few,
-      c.loop-fragment-test.true,
-    )
+pub overflow_add-parts : goal.overflow_add-parts
+overflow_add-parts c =
+    let one = c.requires.one in
+    let next =
+    next_size one.0 _ _ _ _ one.1 one.2 c.loop-fragment-test.true c.fragment-item.is
+    (c.loop-fragment.invariant.sized one.0 one.1 one.2) in
+    let parts = rw (c.as_slice.ensures.value, c.part_count.ensures) at c.parts_size-parts.ensures in
+    omega (arith, parts next.parts next.last, next.within, c.loop-fragment.invariant.many, c.requires.few)
 
 pub loop-fragment-preserved : goal.loop-fragment-preserved
 loop-fragment-preserved c =
-    let complete = c.loop-fragment.complete.items in
-    let count = part_count c.fragment-item.result.kind in
     let old = c.loop-fragment.invariant in
-    let next = next_ready _ _ _ _ c.loop-fragment-test.true c.fragment-item.is old.ready in
-    let size : 1 + c.take_last-size.result ≡ 1 + last_sum count complete =
-    ap (λ n. 1 + n) (rw c.part_count.ensures at c.take_last-size.ensures.total) in
-    let now : c.push.new.self.items ≡ closed count complete =
-    c.in_ok-push.ensures.items
-    ∙ rw (c.take_last-size.ensures.rest, c.part_count.ensures, size) refl in
-    rw (now, c.in_ok-push-2.ensures.items, size)
-    (record {
-      ready = next.1;
-      rest = next_sizes _ _ _ _ _ _ c.loop-fragment-test.true c.fragment-item.is old.rest;
-      read = sum-closed count complete ∙ ap (λ n. n + 1) old.read;
-    })
+    let parts = rw (c.as_slice.ensures.value, c.part_count.ensures) at c.parts_size-parts.ensures in
+    record {
+      sized = λ t counted is.
+          let next =
+          next_size t _ _ _ _ counted is c.loop-fragment-test.true c.fragment-item.is
+          (old.sized t counted is) in
+          rw (c.push_reserved.ensures.items, parts next.parts next.last) (sym next.more);
+      many = omega (arith, old.many, simp length-append at (ap length c.push_reserved.ensures.items));
+      room = omega (arith, old.room, c.push_reserved.ensures.capacity);
+    }
 
 pub returns : goal.returns
-returns c =
-    λ t counted is. sizes_end t _ _ _ _ counted is c.loop-fragment-test.false
-    c.loop-fragment.invariant.rest
+returns c = λ t counted is.
+    c.loop-fragment.invariant.sized t counted is
+    ∙ sizes_end t _ _ is c.loop-fragment-test.false

@@ -1,14 +1,12 @@
-use Rattle.std.proofs.Common.{◌≡◌, ◌++◌, [], length, drop}
-use Rattle.std.specs.Prelude.{sum}
-use Rattle.cqp_postorder.proofs.Sizing.{AreReady, sizes_from}
+use Rattle.std.proofs.Common.{◌≡◌, ◌≤◌, length, take, vec_capacity}
+use Rattle.cqp_postorder.specs.Subtrees.{Subtree, IsCounted, fragments_of, fragment_sizes}
 use Rattle.cqp_postorder.proofs.sizes.subtree_sizes.Given as goal
 
--- the fragments that are left give the other sizes, and each that was read adds one to the sum of
--- those that are complete
+-- the sizes are those of the fragments that were read, and there is room for the others
 abbrev pub invariant-loop-fragment : goal.invariant-loop-fragment
 invariant-loop-fragment l = record {
-  ready : AreReady (length l.complete.items) (drop l.fragment-index l.fragments);
-  rest : sizes_from [] l.fragments
-      ≡ l.sizes.items ++ sizes_from l.complete.items (drop l.fragment-index l.fragments);
-  read : sum l.complete.items ≡ l.fragment-index;
+  sized : (t : Subtree) → IsCounted t → l.fragments ≡ fragments_of t
+      → l.sizes.items ≡ take l.fragment-index (fragment_sizes t);
+  many : length l.sizes.items ≡ l.fragment-index;
+  room : length l.fragments ≤ vec_capacity l.sizes;
 }

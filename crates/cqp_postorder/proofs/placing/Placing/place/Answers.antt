@@ -1,6 +1,6 @@
-use Rattle.std.proofs.Common.{◌≡◌, arith, length}
+use Rattle.std.proofs.Common.{◌≡◌, ◌∙◌, arith, length}
 use Rattle.cqp_postorder.proofs.Placed.{one_left, found_many, stands_within, node_placed}
-use Rattle.cqp_postorder.proofs.Placed.{parts_within, parts_cut}
+use Rattle.cqp_postorder.proofs.Found.{parts_within, parts_cut}
 use Rattle.cqp_postorder.proofs.placing.Placing.place.Goals as goal
 
 pub part_count-count-requires : goal.part_count-count-requires
@@ -43,4 +43,4 @@ returns c = λ t left p.
     omega (arith, c.len.ensures, c.take.new.self.pending.ok.0) in
     let cut =
     parts_cut _ _ _ _ _ _ _ _ q _ _ _ c.deref.ensures.value len c.part_count-count.ensures in
-    rw q.are (node_placed _ _ _ _ _ _ _ _ _ q.node _ (rw cut at c.in_ok-node.ensures))
+    rw q.are (node_placed _ _ _ _ _ _ _ _ _ q.node _ (c.replace.ensures.after ∙ rw cut at c.in_ok-node.ensures))

@@ -1,7 +1,5 @@
-use Rattle.std.proofs.Common.{◌+◌, arith, refl}
-use Rattle.cqp_postorder.specs.Subtrees.{nothing, pending_numbers}
-use Rattle.cqp_postorder.proofs.Filling.{spread}
-use Rattle.cqp_postorder.proofs.Placed.{one_left, taken, ends_within, parts_last, node_next}
+use Rattle.std.proofs.Common.{arith}
+use Rattle.cqp_postorder.proofs.Placed.{one_left, taken, ends_within, parts_last, parts_end}
 use Rattle.cqp_postorder.proofs.placing.Placing.take.Goals as goal
 
 pub unwrap-size-requires : goal.unwrap-size-requires
@@ -13,6 +11,13 @@ pub unwrap-n-requires : goal.unwrap-n-requires
 unwrap-n-requires c =
     let one = one_left _ _ _ _ _ _ _ c.requires.3 in
     c.pop-2.ensures.variant.1 (omega (arith, one.some_number, c.args.self.now.pending.ok.0))
+
+pub overflow_add-end : goal.overflow_add-end
+overflow_add-end c =
+    let sized = rw c.unwrap-size.ensures at c.pop.ensures.items in
+    let numbered = rw c.unwrap-n.ensures at c.pop-2.ensures.items in
+    let p = taken _ _ _ _ _ _ _ _ _ _ _ sized numbered c.requires.3 in
+    omega (arith, ends_within _ _ _ _ _ _ _ _ _ p)
 
 pub overflow_add-n : goal.overflow_add-n
 overflow_add-n c =
@@ -26,8 +31,9 @@ find_parts-requires c =
     let sized = rw c.unwrap-size.ensures at c.pop.ensures.items in
     let numbered = rw c.unwrap-n.ensures at c.pop-2.ensures.items in
     let p = taken _ _ _ _ _ _ _ _ _ _ _ sized numbered c.requires.3 in (
-      spread nothing (c.unwrap-n.result + 1) p.node.parts,
+      p.node.parts,
       parts_last _ _ _ _ _ _ _ _ _ p _ _ c.as_slice.ensures.value c.requires.4,
+      parts_end _ _ _ _ _ _ _ _ _ p,
     )
 
 pub returns : goal.returns
@@ -36,10 +42,10 @@ returns c = λ t left x q counted.
     let numbered = rw c.unwrap-n.ensures at c.pop-2.ensures.items in
     let p = taken t left x _ _ _ _ _ _ _ _ sized numbered q in
     let last = parts_last _ _ _ _ _ _ _ _ _ p _ _ c.as_slice.ensures.value counted in
-    let found = pending_numbers (spread nothing (c.unwrap-n.result + 1) p.node.parts) in
+    let ends = parts_end _ _ _ _ _ _ _ _ _ p in
     record {
-      found = found;
+      found = p.found;
       numbers = c.pop-2.new.self.items;
-      are = c.in_ok-find_parts.ensures _ last;
-      node = node_next _ _ _ _ _ _ _ _ _ p found refl;
+      are = rw p.node.numbers_found (c.in_ok-find_parts.ensures _ last ends);
+      node = p.node;
     }

@@ -5,7 +5,7 @@ use Rattle.cqp_parts.specs.Parts.{more_than_one}
 use Rattle.cqp_standing.specs.Stands.{Stands}
 use Rattle.cqp_stepper.specs.Steps.{IsMade}
 use Rattle.cqp_stepper.proofs.OwnKept.{made_over}
-use Rattle.cqp_stepper.proofs.cells.Cells.move_on.Goals as goal
+use Rattle.cqp_stepper.proofs.cells.Cells.move_apart.Goals as goal
 
 pub go_on-requires-clause-stands : goal.go_on-requires-clause-stands
 go_on-requires-clause-stands c part there =
