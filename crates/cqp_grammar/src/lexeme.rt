@@ -1,6 +1,6 @@
 //! The next lexeme of a text: a gap, a token, or a position where no token begins.
 
-ghost use Rattle.std.specs.Prelude.{◌≡◌, ◌<◌, ◌==◌, IfOk, length, slice_index, true, false};
+ghost use Rattle.std.specs.Prelude.{◌≡◌, ◌<◌, ◌==◌, length, slice_index, true, false};
 ghost use Rattle.cqp_grammar.specs.Lexemes.{Advances, Begins};
 ghost use Rattle.cqp_grammar.specs.Spelling.{is_digit, is_letter, is_blank};
 
@@ -9,54 +9,52 @@ use crate::name_text::NameText;
 use crate::number::value;
 use crate::spelling::{first_symbol, reserved, symbol_len};
 use crate::token::Token;
-use cqp_outside::NoMemory;
-use std::alloc::Global;
 
 /// What stands next in a text, and how many bytes it takes.
 #[derive(Drop)]
-pub(crate) enum Lexeme {
+pub(crate) enum Lexeme<'a> {
     /// A blank or a comment.
     Gap { len: usize },
-    Whole { token: Token, len: usize },
+    Whole { token: Token<'a>, len: usize },
     /// No blank, comment or token begins here.
     Nothing,
 }
 
 /// The lexeme at an offset, of the bytes from there on.
-pub(crate) fn lexeme_at(alloc: Global, bytes: &[u8], at: u32) -> Result<Lexeme, NoMemory>
+pub(crate) fn lexeme_at(bytes: &[u8], at: u32) -> Lexeme
     requires { 0 < length bytes.now }
-    ensures { IfOk result (Advances at bytes.now) }
+    ensures { Advances at bytes.now result }
 {
     let first = bytes[0];
     if is_blank(first) {
-        Ok(Lexeme::Gap { len: 1 })
+        Lexeme::Gap { len: 1 }
     } else if is_letter(first) {
-        word(alloc, bytes, at)
+        word(bytes, at)
     } else if is_digit(first) {
-        Ok(number(bytes, at))
+        number(bytes, at)
     } else if first == b'-' {
-        Ok(comment(bytes, at))
+        comment(bytes, at)
     } else {
-        Ok(symbol(bytes, at))
+        symbol(bytes, at)
     }
 }
 
 /// The word in front of the bytes.
-fn word(alloc: Global, bytes: &[u8], at: u32) -> Result<Lexeme, NoMemory>
+fn word(bytes: &[u8], at: u32) -> Lexeme
     requires some { 0 < length bytes.now }
     requires letter { is_letter (slice_index bytes.now 0) ≡ true }
-    ensures { IfOk result (Advances at bytes.now) }
+    ensures { Advances at bytes.now result }
 {
     let len = word_len(bytes);
     let word = &bytes[..len];
     let token = match reserved(word) {
         Some(reserved) => Token::Reserved { reserved, at },
         None => Token::Name {
-            text: NameText::new(alloc, word)?,
+            text: NameText::new(word),
             at,
         },
     };
-    Ok(Lexeme::Whole { token, len })
+    Lexeme::Whole { token, len }
 }
 
 /// The number in front of the bytes.

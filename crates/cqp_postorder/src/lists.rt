@@ -11,10 +11,10 @@ use cqp_program::{Fragment, Tree};
 use std::alloc::Global;
 
 /// The lists of the process with these fragments. The time grows with their number.
-pub fn tree_lists(alloc: Global, mut fragments: Vec<Fragment>) -> Result<Tree, NoMemory>
+pub fn tree_lists<'a>(alloc: Global, mut fragments: Vec<Fragment<'a>>) -> Result<Tree<'a>, NoMemory>
     requires one { (p : ProcessTree) × (fragments.items ≡ postorder p) }
     requires few { length fragments.items < 2 ^ 31 }
-    ensures ok { (p : ProcessTree) → fragments.items ≡ postorder p → IfOk result (λ t. t
+    ensures ok { (p : ProcessTree) → fragments.entry.items ≡ postorder p → IfOk result (λ t. t
         ≡ tree_lists p) }
 {
     let mut placing = Placing::new(alloc, fragments.as_slice())?;

@@ -10,9 +10,13 @@ use cqp_syntax::Names;
 use std::alloc::Global;
 
 /// The node of this kind whose parts have these numbers.
-pub(crate) fn node_of(alloc: Global, kind: Kind, parts: &[u32]) -> Result<TreeNode, NoMemory>
+pub(crate) fn node_of<'a>(
+    alloc: Global,
+    kind: Kind<'a>,
+    parts: &[u32],
+) -> Result<TreeNode<'a>, NoMemory>
     requires { length parts.now ≡ part_count kind }
-    ensures { IfOk result (λ node. node ≡ node_with kind parts.now) }
+    ensures { IfOk result (λ node. node ≡ node_with kind.entry parts.now) }
 {
     Ok(match kind {
         Kind::Nil => TreeNode::Nil,
@@ -64,9 +68,14 @@ pub(crate) fn node_of(alloc: Global, kind: Kind, parts: &[u32]) -> Result<TreeNo
 }
 
 /// The node of an output whose parts, so many arguments and the body, have these numbers.
-fn output(alloc: Global, chan: Occ, args: usize, parts: &[u32]) -> Result<TreeNode, NoMemory>
+fn output<'a>(
+    alloc: Global,
+    chan: Occ<'a>,
+    args: usize,
+    parts: &[u32],
+) -> Result<TreeNode<'a>, NoMemory>
     requires { length parts.now ≡ args + 1 }
-    ensures { IfOk result (λ node. node ≡ node_with (Out chan args) parts.now) }
+    ensures { IfOk result (λ node. node ≡ node_with (Out chan.entry args) parts.now) }
 {
     let numbers = Vec::from_slice(alloc, &parts[..args])?;
     Ok(TreeNode::Out {

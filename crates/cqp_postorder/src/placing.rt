@@ -19,20 +19,20 @@ use std::mem;
 
 /// The lists so far, and what is known of the fragments that are left.
 #[derive(Drop)]
-pub(crate) struct Placing {
+pub(crate) struct Placing<'a> {
     /// How many nodes each of them is, with all nodes below it.
     sizes: Vec<u32>,
     /// The numbers of the nodes that are parts of none of them, the next one last.
     pending: Vec<u32>,
-    nodes: Vec<TreeNode>,
+    nodes: Vec<TreeNode<'a>>,
     at: Vec<u32>,
 }
 
-impl Placing {
+impl<'a> Placing<'a> {
     ghost use Rattle.cqp_postorder.specs.Placing.{IsPlacing, IsAtNode};
 
     /// Nothing is placed yet.
-    pub(crate) fn new(alloc: Global, fragments: &[Fragment]) -> Result<Placing, NoMemory>
+    pub(crate) fn new(alloc: Global, fragments: &[Fragment<'a>]) -> Result<Placing<'a>, NoMemory>
         requires one { (t : Subtree) × IsCounted t × (fragments.now ≡ fragments_of t) }
         requires few { length fragments.now < 2 ^ 31 }
         ensures { IfOk result (λ p. (t : Subtree) → IsCounted t → fragments.now ≡ fragments_of t
@@ -51,11 +51,11 @@ impl Placing {
     }
 
     /// Places the last of the fragments that are left.
-    pub(crate) fn place(&mut self, alloc: Global, fragment: Fragment) -> Result<(), NoMemory>
+    pub(crate) fn place(&mut self, alloc: Global, fragment: Fragment<'a>) -> Result<(), NoMemory>
         requires { (t : Subtree) × (left : List Fragment)
             × IsPlacing t (left ++ fragment ∷ []) self.old }
         ensures { (t : Subtree) (left : List Fragment)
-            → IsPlacing t (left ++ fragment ∷ []) self.old
+            → IsPlacing t (left ++ fragment.entry ∷ []) self.old
             → OnOk result (IsPlacing t left self.new) }
     {
         let Fragment { kind, at } = fragment;
@@ -85,8 +85,8 @@ impl Placing {
     }
 
     /// The lists, where each fragment is placed.
-    pub(crate) fn into_tree(self) -> Tree
-        ensures { (t : Subtree) → IsPlacing t [] self
+    pub(crate) fn into_tree(self) -> Tree<'a>
+        ensures { (t : Subtree) → IsPlacing t [] self.entry
             → (result.nodes ≡ nodes_of 0 t) × (result.at ≡ offsets_of t) }
     {
         let Placing { nodes, at, .. } = self;
@@ -98,7 +98,7 @@ impl Placing {
 }
 
 /// So many nodes, each of which is `unit` until its own is placed.
-fn units(alloc: Global, count: usize) -> Result<Vec<TreeNode>, NoMemory>
+fn units<'a>(alloc: Global, count: usize) -> Result<Vec<TreeNode<'a>>, NoMemory>
     ensures { IfOk result (λ nodes. nodes.items ≡ replicate count Unit) }
 {
     let mut nodes = Vec::with_capacity(alloc, count)?;

@@ -10,12 +10,12 @@ use std::marker::Model;
 /// in it is a name of the grammar, what is applied or measured has an operand, and an `Op` has one,
 /// two or three places.
 #[derive(Debug, Drop)]
-pub struct Program {
-    pub defs: Defs,
-    pub main: Tree,
+pub struct Program<'a> {
+    pub defs: Defs<'a>,
+    pub main: Tree<'a>,
 }
 
-impl Model for Program {
+impl<'a> Model for Program<'a> {
     ghost use Rattle.cqp_grammar.specs.Trees.{ProgramTree};
     ghost use Rattle.cqp_program.specs.Programs.{ProgramLists, IsProgramListing};
 
@@ -29,25 +29,25 @@ impl Model for Program {
 
 /// A definition. `at` is the offset of its name.
 #[derive(Debug, Drop)]
-pub struct Def {
-    pub name: NameText,
+pub struct Def<'a> {
+    pub name: NameText<'a>,
     pub at: u32,
-    pub params: Params,
-    pub body: Tree,
+    pub params: Params<'a>,
+    pub body: Tree<'a>,
 }
 
 /// A parameter of a definition or of an input. `at` is the offset of its name.
 #[derive(Debug, Drop)]
-pub struct Param {
-    pub name: NameText,
+pub struct Param<'a> {
+    pub name: NameText<'a>,
     pub at: u32,
     pub ty: TyTree,
 }
 
 /// A name where it stands. `at` is its offset.
 #[derive(Debug, Drop)]
-pub struct Occ {
-    pub name: NameText,
+pub struct Occ<'a> {
+    pub name: NameText<'a>,
     pub at: u32,
 }
 
@@ -58,7 +58,10 @@ pub struct TyTree {
 }
 
 /// A list of definitions.
-pub type Defs = List<Def>;
+pub type Defs<'a> = List<Def<'a>>;
 
 /// A list of parameters.
-pub type Params = List<Param>;
+pub type Params<'a> = List<Param<'a>>;
+
+/// A list of names.
+pub type Occs<'a> = List<Occ<'a>>;

@@ -1,34 +1,33 @@
 //! The process of a program text as lists.
 
-use crate::occs::Occs;
-use crate::program::{Occ, Params, TyTree};
+use crate::program::{Occ, Occs, Params, TyTree};
 use cqp_grammar::NameText;
 use cqp_lists::List;
 use cqp_syntax::{Names, Op};
 
 /// The nodes of a process in preorder, number 0 the root, and the offset of each.
 #[derive(Debug, Drop)]
-pub struct Tree {
-    pub nodes: TreeNodes,
+pub struct Tree<'a> {
+    pub nodes: TreeNodes<'a>,
     pub at: Names,
 }
 
 /// A node of a process or an expression. `left`, `right`, `body`, `expr`, `args` of an output,
 /// `yes`, `no`, `of` and the `op` of an application hold numbers of nodes.
 #[derive(Debug, Drop)]
-pub enum TreeNode {
+pub enum TreeNode<'a> {
     Nil,
     Par {
         left: u32,
         right: u32,
     },
     New {
-        name: Occ,
+        name: Occ<'a>,
         ty: TyTree,
         body: u32,
     },
     Qbit {
-        name: Occ,
+        name: Occ<'a>,
         body: u32,
     },
     Act {
@@ -36,12 +35,12 @@ pub enum TreeNode {
         body: u32,
     },
     In {
-        chan: Occ,
-        params: Params,
+        chan: Occ<'a>,
+        params: Params<'a>,
         body: u32,
     },
     Out {
-        chan: Occ,
+        chan: Occ<'a>,
         args: Names,
         body: u32,
     },
@@ -56,7 +55,7 @@ pub enum TreeNode {
     },
     Unit,
     Name {
-        name: NameText,
+        name: NameText<'a>,
     },
     Gate {
         op: Op,
@@ -69,17 +68,17 @@ pub enum TreeNode {
         right: u32,
     },
     Apply {
-        qubits: Occs,
+        qubits: Occs<'a>,
         op: u32,
     },
     Measure {
-        qubits: Occs,
+        qubits: Occs<'a>,
     },
     Call {
-        name: NameText,
-        args: Occs,
+        name: NameText<'a>,
+        args: Occs<'a>,
     },
 }
 
 /// A list of nodes.
-pub type TreeNodes = List<TreeNode>;
+pub type TreeNodes<'a> = List<TreeNode<'a>>;

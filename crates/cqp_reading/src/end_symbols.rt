@@ -23,13 +23,13 @@ use cqp_program::{Kind, Occ, Occs, Params};
 use cqp_syntax::Ty;
 
 /// `)`.
-pub(crate) fn at_close(
-    draft: &mut Draft,
-    next: &mut Awaits,
-    awaits: Awaits,
+pub(crate) fn at_close<'a>(
+    draft: &mut Draft<'a>,
+    next: &mut Awaits<'a>,
+    awaits: Awaits<'a>,
 ) -> Result<bool, NoMemory>
     ensures { IfOk result (λ may. then_some may (stand next.new draft.new)
-        ≡ at_close awaits draft.old) }
+        ≡ at_close awaits.entry draft.old) }
 {
     match awaits {
         Awaits::ParamsFirst => heading_read(draft, next, Params::new(draft.alloc())),
@@ -46,7 +46,7 @@ pub(crate) fn at_close(
 }
 
 /// Ends the type of a gate.
-fn op_read(draft: &mut Draft, next: &mut Awaits, places: u32) -> Result<bool, NoMemory>
+fn op_read<'a>(draft: &mut Draft<'a>, next: &mut Awaits<'a>, places: u32) -> Result<bool, NoMemory>
     ensures { IfOk result (λ may. then_some may (stand next.new draft.new)
         ≡ Some (stand awaits.AfterType (typed (ty.Op places) draft.old))) }
 {
@@ -55,9 +55,14 @@ fn op_read(draft: &mut Draft, next: &mut Awaits, places: u32) -> Result<bool, No
 }
 
 /// Ends a call.
-fn call(draft: &mut Draft, next: &mut Awaits, name: Occ, args: Occs) -> Result<bool, NoMemory>
+fn call<'a>(
+    draft: &mut Draft<'a>,
+    next: &mut Awaits<'a>,
+    name: Occ<'a>,
+    args: Occs<'a>,
+) -> Result<bool, NoMemory>
     ensures { IfOk result (λ may. then_some may (stand next.new draft.new)
-        ≡ called name args draft.old) }
+        ≡ called name.entry args.entry draft.old) }
 {
     let Occ { name, at } = name;
     draft.emit(Kind::Call { name, args }, at)?;
@@ -65,7 +70,7 @@ fn call(draft: &mut Draft, next: &mut Awaits, name: Occ, args: Occs) -> Result<b
 }
 
 /// Ends a process in parentheses.
-fn group_read(draft: &mut Draft, next: &mut Awaits) -> Result<bool, NoMemory>
+fn group_read<'a>(draft: &mut Draft<'a>, next: &mut Awaits<'a>) -> Result<bool, NoMemory>
     ensures { IfOk result (λ may. then_some may (stand next.new draft.new)
         ≡ group_read (process_read draft.old)) }
 {
@@ -77,9 +82,13 @@ fn group_read(draft: &mut Draft, next: &mut Awaits) -> Result<bool, NoMemory>
 }
 
 /// Ends an expression in parentheses.
-fn parens_read(draft: &mut Draft, next: &mut Awaits, awaits: Awaits) -> Result<bool, NoMemory>
+fn parens_read<'a>(
+    draft: &mut Draft<'a>,
+    next: &mut Awaits<'a>,
+    awaits: Awaits<'a>,
+) -> Result<bool, NoMemory>
     ensures { IfOk result (λ may. then_some may (stand next.new draft.new)
-        ≡ parens_read (expr_read awaits draft.old)) }
+        ≡ parens_read (expr_read awaits.entry draft.old)) }
 {
     match expr_read(draft, awaits)? {
         Some(Frame::Sig { at }) => draft.emit(Kind::Sig, at)?,
@@ -90,14 +99,14 @@ fn parens_read(draft: &mut Draft, next: &mut Awaits, awaits: Awaits) -> Result<b
 }
 
 /// `]`.
-pub(crate) fn at_close_list(
-    draft: &mut Draft,
-    next: &mut Awaits,
-    awaits: Awaits,
+pub(crate) fn at_close_list<'a>(
+    draft: &mut Draft<'a>,
+    next: &mut Awaits<'a>,
+    awaits: Awaits<'a>,
 ) -> Result<bool, NoMemory>
     requires few { weight draft.old < 2 ^ 31 }
     ensures { IfOk result (λ may. then_some may (stand next.new draft.new)
-        ≡ at_close_list awaits draft.old) }
+        ≡ at_close_list awaits.entry draft.old) }
 {
     match awaits {
         Awaits::ParamsFirst => input_read(draft, next, Params::new(draft.alloc())),
@@ -108,7 +117,7 @@ pub(crate) fn at_close_list(
 }
 
 /// Ends a list of no item.
-fn empty_read(draft: &mut Draft, next: &mut Awaits) -> Result<bool, NoMemory>
+fn empty_read<'a>(draft: &mut Draft<'a>, next: &mut Awaits<'a>) -> Result<bool, NoMemory>
     ensures { IfOk result (λ may. then_some may (stand next.new draft.new)
         ≡ empty_read (top draft.old) (popped draft.old)) }
 {
@@ -116,33 +125,39 @@ fn empty_read(draft: &mut Draft, next: &mut Awaits) -> Result<bool, NoMemory>
         Some(Frame::List { chan, args }) => {
             into(draft, next, Frame::Out { chan, args }, Awaits::DotWanted)
         }
-        _ => Ok(false),
+        Some(_frame) => Ok(false),
+        None => Ok(false),
     }
 }
 
 /// Ends a list with its last item.
-fn list_read(draft: &mut Draft, next: &mut Awaits, awaits: Awaits) -> Result<bool, NoMemory>
+fn list_read<'a>(
+    draft: &mut Draft<'a>,
+    next: &mut Awaits<'a>,
+    awaits: Awaits<'a>,
+) -> Result<bool, NoMemory>
     requires few { weight draft.old < 2 ^ 31 }
     ensures { IfOk result (λ may. then_some may (stand next.new draft.new)
-        ≡ list_read (expr_read awaits draft.old)) }
+        ≡ list_read (expr_read awaits.entry draft.old)) }
 {
     match expr_read(draft, awaits)? {
         Some(Frame::List { chan, args }) => {
             let args = args + 1;
             into(draft, next, Frame::Out { chan, args }, Awaits::DotWanted)
         }
-        _ => Ok(false),
+        Some(_frame) => Ok(false),
+        None => Ok(false),
     }
 }
 
 /// `}`.
-pub(crate) fn at_close_act(
-    draft: &mut Draft,
-    next: &mut Awaits,
-    awaits: Awaits,
+pub(crate) fn at_close_act<'a>(
+    draft: &mut Draft<'a>,
+    next: &mut Awaits<'a>,
+    awaits: Awaits<'a>,
 ) -> Result<bool, NoMemory>
     ensures { IfOk result (λ may. then_some may (stand next.new draft.new)
-        ≡ act_read (expr_read awaits draft.old)) }
+        ≡ act_read (expr_read awaits.entry draft.old)) }
 {
     match expr_read(draft, awaits)? {
         Some(Frame::Braces { at }) => into(draft, next, Frame::Act { at }, Awaits::DotWanted),
@@ -151,13 +166,13 @@ pub(crate) fn at_close_act(
 }
 
 /// `;`.
-pub(crate) fn at_semicolon(
-    draft: &mut Draft,
-    next: &mut Awaits,
-    awaits: Awaits,
+pub(crate) fn at_semicolon<'a>(
+    draft: &mut Draft<'a>,
+    next: &mut Awaits<'a>,
+    awaits: Awaits<'a>,
 ) -> Result<bool, NoMemory>
     ensures { IfOk result (λ may. then_some may (stand next.new draft.new)
-        ≡ at_semicolon awaits draft.old) }
+        ≡ at_semicolon awaits.entry draft.old) }
 {
     match awaits {
         Awaits::AfterPrefix => body_read(draft, next),
@@ -166,7 +181,7 @@ pub(crate) fn at_semicolon(
 }
 
 /// Ends a definition with its body.
-fn body_read(draft: &mut Draft, next: &mut Awaits) -> Result<bool, NoMemory>
+fn body_read<'a>(draft: &mut Draft<'a>, next: &mut Awaits<'a>) -> Result<bool, NoMemory>
     ensures { IfOk result (λ may. then_some may (stand next.new draft.new)
         ≡ body_read (process_read draft.old)) }
 {
@@ -182,9 +197,13 @@ fn body_read(draft: &mut Draft, next: &mut Awaits) -> Result<bool, NoMemory>
 
 /// The end of the text.
 #[inline(never)]
-pub(crate) fn at_end(draft: &mut Draft, next: &mut Awaits, awaits: Awaits) -> Result<bool, NoMemory>
+pub(crate) fn at_end<'a>(
+    draft: &mut Draft<'a>,
+    next: &mut Awaits<'a>,
+    awaits: Awaits<'a>,
+) -> Result<bool, NoMemory>
     ensures { IfOk result (λ may. then_some may (stand next.new draft.new)
-        ≡ at_end awaits draft.old) }
+        ≡ at_end awaits.entry draft.old) }
 {
     match awaits {
         Awaits::AfterPrefix => main_read(draft, next),
@@ -193,7 +212,7 @@ pub(crate) fn at_end(draft: &mut Draft, next: &mut Awaits, awaits: Awaits) -> Re
 }
 
 /// Ends the main process, where nothing is open.
-fn main_read(draft: &mut Draft, next: &mut Awaits) -> Result<bool, NoMemory>
+fn main_read<'a>(draft: &mut Draft<'a>, next: &mut Awaits<'a>) -> Result<bool, NoMemory>
     ensures { IfOk result (λ may. then_some may (stand next.new draft.new)
         ≡ main_read (process_read draft.old)) }
 {

@@ -16,15 +16,15 @@ use cqp_program::{Kind, Occ, Occs, Params};
 use std::alloc::Global;
 
 /// A name.
-pub(crate) fn at_name(
-    draft: &mut Draft,
-    next: &mut Awaits,
-    awaits: Awaits,
-    name: Occ,
+pub(crate) fn at_name<'a>(
+    draft: &mut Draft<'a>,
+    next: &mut Awaits<'a>,
+    awaits: Awaits<'a>,
+    name: Occ<'a>,
 ) -> Result<bool, NoMemory>
     requires few { weight draft.old < 2 ^ 31 }
     ensures { IfOk result (λ may. then_some may (stand next.new draft.new)
-        ≡ at_name awaits draft.old name) }
+        ≡ at_name awaits.entry draft.old name.entry) }
 {
     match awaits {
         Awaits::Definitions | Awaits::PrefixWanted => go_on(next, Awaits::Named { name }),
@@ -38,8 +38,13 @@ pub(crate) fn at_name(
 }
 
 /// A name that begins something.
-fn bound(draft: &Draft, next: &mut Awaits, awaits: Awaits, name: Occ) -> Result<bool, NoMemory>
-    ensures { IfOk result (λ may. then_some may next.new ≡ bound awaits name) }
+fn bound<'a>(
+    draft: &Draft<'a>,
+    next: &mut Awaits<'a>,
+    awaits: Awaits<'a>,
+    name: Occ<'a>,
+) -> Result<bool, NoMemory>
+    ensures { IfOk result (λ may. then_some may next.new ≡ bound awaits.entry name.entry) }
 {
     match awaits {
         Awaits::DefName => go_on(next, Awaits::DefOpen { name }),
@@ -56,8 +61,13 @@ fn bound(draft: &Draft, next: &mut Awaits, awaits: Awaits, name: Occ) -> Result<
 }
 
 /// A name in a list of names.
-fn listed(alloc: Global, next: &mut Awaits, awaits: Awaits, name: Occ) -> Result<bool, NoMemory>
-    ensures { IfOk result (λ may. then_some may next.new ≡ listed awaits name) }
+fn listed<'a>(
+    alloc: Global,
+    next: &mut Awaits<'a>,
+    awaits: Awaits<'a>,
+    name: Occ<'a>,
+) -> Result<bool, NoMemory>
+    ensures { IfOk result (λ may. then_some may next.new ≡ listed awaits.entry name.entry) }
 {
     let now = match awaits {
         Awaits::CallFirst { called } => {
@@ -82,8 +92,8 @@ fn listed(alloc: Global, next: &mut Awaits, awaits: Awaits, name: Occ) -> Result
 }
 
 /// The names with one more behind them.
-fn more(names: Occs, name: Occ) -> Result<Occs, NoMemory>
-    ensures { IfOk result (λ all. all ≡ names ++ name ∷ []) }
+fn more<'a>(names: Occs<'a>, name: Occ<'a>) -> Result<Occs<'a>, NoMemory>
+    ensures { IfOk result (λ all. all ≡ names.entry ++ name.entry ∷ []) }
 {
     let mut names = names;
     names.push(name)?;
@@ -91,16 +101,16 @@ fn more(names: Occs, name: Occ) -> Result<Occs, NoMemory>
 }
 
 /// A number.
-pub(crate) fn at_number(
-    draft: &mut Draft,
-    next: &mut Awaits,
-    awaits: Awaits,
+pub(crate) fn at_number<'a>(
+    draft: &mut Draft<'a>,
+    next: &mut Awaits<'a>,
+    awaits: Awaits<'a>,
     v: u32,
     at: u32,
 ) -> Result<bool, NoMemory>
     requires few { weight draft.old < 2 ^ 31 }
     ensures { IfOk result (λ may. then_some may (stand next.new draft.new)
-        ≡ at_number awaits draft.old v at) }
+        ≡ at_number awaits.entry draft.old v at) }
 {
     match awaits {
         Awaits::OpNumber => op_place(next, v),
@@ -124,15 +134,15 @@ fn op_place(next: &mut Awaits, v: u32) -> Result<bool, NoMemory>
 }
 
 /// `0` as a process.
-fn nil_read(
-    draft: &mut Draft,
-    next: &mut Awaits,
-    awaits: Awaits,
+fn nil_read<'a>(
+    draft: &mut Draft<'a>,
+    next: &mut Awaits<'a>,
+    awaits: Awaits<'a>,
     v: u32,
     at: u32,
 ) -> Result<bool, NoMemory>
     ensures { IfOk result (λ may. then_some may (stand next.new draft.new)
-        ≡ nil_read v at (prefix_place awaits draft.old)) }
+        ≡ nil_read v at (prefix_place awaits.entry draft.old)) }
 {
     if v != 0 || !prefix_place(draft, awaits)? {
         return Ok(false);
@@ -142,8 +152,10 @@ fn nil_read(
 }
 
 /// The names with this one alone.
-pub(crate) fn one(alloc: Global, name: Occ) -> Result<Occs, NoMemory>
-    ensures { IfOk result (λ names. names ≡ name ∷ []) }
+pub(crate) fn one<'a>(alloc: Global, name: Occ<'a>) -> Result<Occs<'a>, NoMemory>
+    ensures { IfOk result (λ names. names ≡ name.entry ∷ []) }
 {
-    more(Occs::new(alloc), name)
+    let mut names = Occs::with_capacity(alloc, 1)?;
+    names.push(name)?;
+    Ok(names)
 }

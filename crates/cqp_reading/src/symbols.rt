@@ -3,12 +3,10 @@
 ghost use Rattle.std.specs.Prelude.{◌≡◌, ◌<◌, ◌^◌, IfOk};
 ghost use Rattle.std.specs.Option.{option_map};
 ghost use Rattle.std.specs.Bool.{then_some};
-ghost use Rattle.cqp_reading.specs.declared.frame.Frame.TheVariants as frame;
 ghost use Rattle.cqp_reading.specs.declared.awaits.Awaits.TheVariants.{AfterSum, ChanOpen};
-ghost use Rattle.cqp_reading.specs.declared.awaits.Awaits.TheVariants.{ExprWanted};
-ghost use Rattle.cqp_reading.specs.DraftLists.{is_list, top, weight, stand, opened};
-ghost use Rattle.cqp_reading.specs.Closing.{atom_place, prefix_place, expr_read, type_place};
-ghost use Rattle.cqp_reading.specs.Symbols.{at_open, at_open_list, at_equals, at_comma};
+ghost use Rattle.cqp_reading.specs.DraftLists.{is_list, top, weight, stand};
+ghost use Rattle.cqp_reading.specs.Closing.{expr_read, type_place};
+ghost use Rattle.cqp_reading.specs.Symbols.{at_equals, at_comma};
 ghost use Rattle.cqp_reading.specs.Symbols.{item_read, at_colon, at_applies, at_bar, at_plus};
 ghost use Rattle.cqp_reading.specs.Symbols.{mark_place, measured_more, left_read};
 
@@ -17,102 +15,20 @@ use crate::awaits::Awaits;
 use crate::draft::Draft;
 use crate::frame::Frame;
 use crate::names::one;
-use crate::standing::{atom_place, expr_read, go_on, into, prefix_place};
-use crate::types::{open_chan, type_followed, type_place};
+use crate::standing::{expr_read, go_on, into};
+use crate::types::{type_followed, type_place};
 use cqp_grammar::SymbolKind;
 use cqp_program::{Kind, Occs};
 
-/// `(`, with its offset.
-pub(crate) fn at_open(
-    draft: &mut Draft,
-    next: &mut Awaits,
-    awaits: Awaits,
-    at: u32,
-) -> Result<bool, NoMemory>
-    requires few { weight draft.old < 2 ^ 31 }
-    ensures { IfOk result (λ may. then_some may (stand next.new draft.new)
-        ≡ at_open awaits draft.old at) }
-{
-    match awaits {
-        Awaits::DefOpen { name } => into(draft, next, Frame::Heading { name }, Awaits::ParamsFirst),
-        Awaits::OpOpen => go_on(next, Awaits::OpNumber),
-        Awaits::Named { name } => go_on(next, Awaits::CallFirst { called: name }),
-        Awaits::SigOpen { at } => into(draft, next, Frame::Sig { at }, Awaits::ExprWanted),
-        Awaits::Definitions | Awaits::PrefixWanted => go_on(next, Awaits::Opened { at }),
-        Awaits::Opened { .. } => into(draft, next, Frame::Group, Awaits::Opened { at }),
-        awaits => open_parens(draft, next, awaits),
-    }
-}
-
-/// Opens parentheses round an expression, where an atom may begin.
-fn open_parens(draft: &mut Draft, next: &mut Awaits, awaits: Awaits) -> Result<bool, NoMemory>
-    requires few { weight draft.old < 2 ^ 31 }
-    ensures { IfOk result (λ may. then_some may (stand next.new draft.new)
-        ≡ option_map (λ s. stand ExprWanted (opened frame.Parens s))
-        (atom_place awaits draft.old)) }
-{
-    if !atom_place(draft, awaits)? {
-        return Ok(false);
-    }
-    into(draft, next, Frame::Parens, Awaits::ExprWanted)
-}
-
-/// `[`.
-pub(crate) fn at_open_list(
-    draft: &mut Draft,
-    next: &mut Awaits,
-    awaits: Awaits,
-) -> Result<bool, NoMemory>
-    requires few { weight draft.old < 2 ^ 31 }
-    ensures { IfOk result (λ may. then_some may (stand next.new draft.new)
-        ≡ at_open_list awaits draft.old) }
-{
-    match awaits {
-        Awaits::ChanOpen => open_chan(draft, next),
-        Awaits::InputOpen { chan } => into(
-            draft,
-            next,
-            Frame::Params { chan },
-            Awaits::ParamsFirst,
-        ),
-        Awaits::OutputOpen { chan } => {
-            into(
-                draft,
-                next,
-                Frame::List { chan, args: 0 },
-                Awaits::OutputFirst,
-            )
-        }
-        _ => Ok(false),
-    }
-}
-
-/// `{`, with its offset.
-pub(crate) fn at_open_act(
-    draft: &mut Draft,
-    next: &mut Awaits,
-    awaits: Awaits,
-    at: u32,
-) -> Result<bool, NoMemory>
-    ensures { IfOk result (λ may. then_some may (stand next.new draft.new)
-        ≡ option_map (λ s. stand ExprWanted (opened (frame.Braces at) s))
-        (prefix_place awaits draft.old)) }
-{
-    if !prefix_place(draft, awaits)? {
-        return Ok(false);
-    }
-    into(draft, next, Frame::Braces { at }, Awaits::ExprWanted)
-}
-
 /// `^`.
-pub(crate) fn at_caret(
-    draft: &mut Draft,
-    next: &mut Awaits,
-    awaits: Awaits,
+pub(crate) fn at_caret<'a>(
+    draft: &mut Draft<'a>,
+    next: &mut Awaits<'a>,
+    awaits: Awaits<'a>,
 ) -> Result<bool, NoMemory>
     requires few { weight draft.old < 2 ^ 31 }
     ensures { IfOk result (λ may. then_some may (stand next.new draft.new)
-        ≡ option_map (stand ChanOpen) (type_place awaits draft.old)) }
+        ≡ option_map (stand ChanOpen) (type_place awaits.entry draft.old)) }
 {
     if !type_place(draft, awaits)? {
         return Ok(false);
@@ -121,13 +37,13 @@ pub(crate) fn at_caret(
 }
 
 /// `=`.
-pub(crate) fn at_equals(
-    draft: &mut Draft,
-    next: &mut Awaits,
-    awaits: Awaits,
+pub(crate) fn at_equals<'a>(
+    draft: &mut Draft<'a>,
+    next: &mut Awaits<'a>,
+    awaits: Awaits<'a>,
 ) -> Result<bool, NoMemory>
     ensures { IfOk result (λ may. then_some may (stand next.new draft.new)
-        ≡ at_equals awaits draft.old) }
+        ≡ at_equals awaits.entry draft.old) }
 {
     match awaits {
         Awaits::DefEquals { name, params } => {
@@ -143,9 +59,13 @@ pub(crate) fn at_equals(
 }
 
 /// Ends the left side of a comparison.
-fn left_read(draft: &mut Draft, next: &mut Awaits, awaits: Awaits) -> Result<bool, NoMemory>
+fn left_read<'a>(
+    draft: &mut Draft<'a>,
+    next: &mut Awaits<'a>,
+    awaits: Awaits<'a>,
+) -> Result<bool, NoMemory>
     ensures { IfOk result (λ may. then_some may (stand next.new draft.new)
-        ≡ left_read (expr_read awaits draft.old)) }
+        ≡ left_read (expr_read awaits.entry draft.old)) }
 {
     match expr_read(draft, awaits)? {
         Some(Frame::Left { at }) => into(draft, next, Frame::RightSide { at }, Awaits::ItemWanted),
@@ -154,14 +74,14 @@ fn left_read(draft: &mut Draft, next: &mut Awaits, awaits: Awaits) -> Result<boo
 }
 
 /// `,`.
-pub(crate) fn at_comma(
-    draft: &mut Draft,
-    next: &mut Awaits,
-    awaits: Awaits,
+pub(crate) fn at_comma<'a>(
+    draft: &mut Draft<'a>,
+    next: &mut Awaits<'a>,
+    awaits: Awaits<'a>,
 ) -> Result<bool, NoMemory>
     requires few { weight draft.old < 2 ^ 31 }
     ensures { IfOk result (λ may. then_some may (stand next.new draft.new)
-        ≡ at_comma awaits draft.old) }
+        ≡ at_comma awaits.entry draft.old) }
 {
     match awaits {
         Awaits::AfterType => type_followed(draft, next),
@@ -178,8 +98,8 @@ pub(crate) fn at_comma(
 }
 
 /// What is awaited behind measured qubits and a comma.
-fn measured_more(draft: &Draft, at: u32, qubits: Occs) -> Awaits
-    ensures { result ≡ measured_more (is_list (top draft.now)) at qubits }
+fn measured_more<'a>(draft: &Draft<'a>, at: u32, qubits: Occs<'a>) -> Awaits<'a>
+    ensures { result ≡ measured_more (is_list (top draft.now)) at qubits.entry }
 {
     if draft.is_in_list() {
         Awaits::MeasuredComma { at, qubits }
@@ -189,7 +109,7 @@ fn measured_more(draft: &Draft, at: u32, qubits: Occs) -> Awaits
 }
 
 /// Ends an item of a list that has another behind it.
-fn item_read(draft: &mut Draft, next: &mut Awaits) -> Result<bool, NoMemory>
+fn item_read<'a>(draft: &mut Draft<'a>, next: &mut Awaits<'a>) -> Result<bool, NoMemory>
     requires few { weight draft.old < 2 ^ 31 }
     ensures { IfOk result (λ may. then_some may (stand next.new draft.new)
         ≡ item_read (expr_read AfterSum draft.old)) }
@@ -199,18 +119,19 @@ fn item_read(draft: &mut Draft, next: &mut Awaits) -> Result<bool, NoMemory>
             let args = args + 1;
             into(draft, next, Frame::List { chan, args }, Awaits::ItemWanted)
         }
-        _ => Ok(false),
+        Some(_frame) => Ok(false),
+        None => Ok(false),
     }
 }
 
 /// `:`.
-pub(crate) fn at_colon(
-    draft: &mut Draft,
-    next: &mut Awaits,
-    awaits: Awaits,
+pub(crate) fn at_colon<'a>(
+    draft: &mut Draft<'a>,
+    next: &mut Awaits<'a>,
+    awaits: Awaits<'a>,
 ) -> Result<bool, NoMemory>
     ensures { IfOk result (λ may. then_some may (stand next.new draft.new)
-        ≡ at_colon awaits draft.old) }
+        ≡ at_colon awaits.entry draft.old) }
 {
     match awaits {
         Awaits::ParamColon { params, name } => {
@@ -234,13 +155,13 @@ pub(crate) fn at_colon(
 }
 
 /// `*=`.
-pub(crate) fn at_applies(
-    draft: &mut Draft,
-    next: &mut Awaits,
-    awaits: Awaits,
+pub(crate) fn at_applies<'a>(
+    draft: &mut Draft<'a>,
+    next: &mut Awaits<'a>,
+    awaits: Awaits<'a>,
 ) -> Result<bool, NoMemory>
     ensures { IfOk result (λ may. then_some may (stand next.new draft.new)
-        ≡ at_applies awaits draft.old) }
+        ≡ at_applies awaits.entry draft.old) }
 {
     let qubits = match awaits {
         Awaits::ExprNamed { name } => one(draft.alloc(), name)?,
@@ -251,14 +172,14 @@ pub(crate) fn at_applies(
 }
 
 /// `|`, with its offset.
-pub(crate) fn at_bar(
-    draft: &mut Draft,
-    next: &mut Awaits,
-    awaits: Awaits,
+pub(crate) fn at_bar<'a>(
+    draft: &mut Draft<'a>,
+    next: &mut Awaits<'a>,
+    awaits: Awaits<'a>,
     at: u32,
 ) -> Result<bool, NoMemory>
     ensures { IfOk result (λ may. then_some may (stand next.new draft.new)
-        ≡ at_bar awaits draft.old at) }
+        ≡ at_bar awaits.entry draft.old at) }
 {
     match awaits {
         Awaits::AfterPrefix => into(draft, next, Frame::Right { at }, Awaits::PrefixWanted),
@@ -267,14 +188,14 @@ pub(crate) fn at_bar(
 }
 
 /// `+`, with its offset.
-pub(crate) fn at_plus(
-    draft: &mut Draft,
-    next: &mut Awaits,
-    awaits: Awaits,
+pub(crate) fn at_plus<'a>(
+    draft: &mut Draft<'a>,
+    next: &mut Awaits<'a>,
+    awaits: Awaits<'a>,
     at: u32,
 ) -> Result<bool, NoMemory>
     ensures { IfOk result (λ may. then_some may (stand next.new draft.new)
-        ≡ at_plus awaits draft.old at) }
+        ≡ at_plus awaits.entry draft.old at) }
 {
     match awaits {
         Awaits::ExprNamed { name } => draft.emit(Kind::Name { name: name.name }, name.at)?,
@@ -285,12 +206,12 @@ pub(crate) fn at_plus(
 }
 
 /// `.`, `?` and `!`.
-pub(crate) fn mark_place(
-    next: &mut Awaits,
-    awaits: Awaits,
+pub(crate) fn mark_place<'a>(
+    next: &mut Awaits<'a>,
+    awaits: Awaits<'a>,
     mark: SymbolKind,
 ) -> Result<bool, NoMemory>
-    ensures { IfOk result (λ may. then_some may next.new ≡ mark_place awaits mark) }
+    ensures { IfOk result (λ may. then_some may next.new ≡ mark_place awaits.entry mark) }
 {
     match (awaits, mark) {
         (Awaits::DotWanted, SymbolKind::Dot) => go_on(next, Awaits::PrefixWanted),
@@ -300,6 +221,6 @@ pub(crate) fn mark_place(
         (Awaits::Named { name: chan }, SymbolKind::Bang) => {
             go_on(next, Awaits::OutputOpen { chan })
         }
-        _ => Ok(false),
+        (_awaits, _) => Ok(false),
     }
 }

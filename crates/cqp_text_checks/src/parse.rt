@@ -2,7 +2,7 @@
 
 mod limits;
 
-use cqp_parse::{NoMemory, ParseEnd, parse, print, print_and_parse};
+use cqp_parse::{Bytes, NoMemory, ParseEnd, parse, print, print_and_parse};
 use std::alloc::Global;
 use std::process::Abort;
 use std::test::Fail;
@@ -40,7 +40,8 @@ fn again(alloc: Global, text: &[u8]) -> Result<Option<Vec<u8>>, NoMemory> {
     if printed.len() >= 1000 {
         return Ok(None);
     }
-    let Ok(program) = print_and_parse(alloc, &program) else {
+    let mut text = Bytes::new(alloc);
+    let Ok(program) = print_and_parse(alloc, &program, &mut text) else {
         return Ok(None);
     };
     let printed = print(alloc, &program)?;

@@ -1,5 +1,5 @@
 use Rattle.cqp_reading.proofs.Others.{open_other}
-use Rattle.cqp_reading.proofs.symbols.at_open.Goals as goal
+use Rattle.cqp_reading.proofs.open_symbols.at_open.Goals as goal
 
 pub returns-in_default : goal.returns-in_default
 returns-in_default c =
