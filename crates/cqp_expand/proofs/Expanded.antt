@@ -58,19 +58,19 @@ module _ (t : ProgramTree) (s : Scanned) (i : IsScanned t s) (e : s.least ≡ No
   outlines = s.outlines.items
 
   -- they are those of the program
-  are : AreBehind s.types.types.items [] [] t.defs t.main outlines
-  are = in_order s.types.types.items outlines t i.outlines
+  are : AreBehind s.types.types [] [] t.defs t.main outlines
+  are = in_order s.types.types outlines t i.outlines
 
   -- there is an outline
   pub some_outlines : 1 ≤ length outlines
-  some_outlines = let count = length-outlines s.types.types.items [] [] t.defs t.main outlines are in omega (arith, count)
+  some_outlines = let count = length-outlines s.types.types [] [] t.defs t.main outlines are in omega (arith, count)
 
   -- the last outline tells what the process counts as
   pub main_count : (def : ℕ) (d : Outline) → def + 1 ≡ length outlines → slice_get outlines def ≡ Some d → d.count ≡ min (count_of (expansion t)) 20001
   main_count def d h at =
-      let k = program_known t s.types.types.items outlines (faultless t s i e) are def (omega (arith, h)) in
+      let k = program_known t s.types.types outlines (faultless t s i e) are def (omega (arith, h)) in
       let main = main_template (templates_after [] t.defs) t.main in
-      let count = length-outlines s.types.types.items [] [] t.defs t.main outlines are in
+      let count = length-outlines s.types.types [] [] t.defs t.main outlines are in
       let templates = length-templates_after [] t.defs in
       let is_main : template_at (program_templates t) def
       ≡ Some main = template_last main (templates_after [] t.defs) def (omega (arith, h, count, templates)) in
@@ -87,7 +87,7 @@ module _ (t : ProgramTree) (s : Scanned) (i : IsScanned t s) (e : s.least ≡ No
       ∙ slice_get-get_or xs (length xs - 1) d (omega (arith, some, longer)))
 
   -- a process that is small enough has been scanned so
-  pub is_small : count_of (expansion t) ≤ 20000 → IsSmall t s.types.types.items outlines
+  pub is_small : count_of (expansion t) ≤ 20000 → IsSmall t s.types.types outlines
   is_small h = record { faultless = faultless t s i e; scanned = are; small = h }
 
 module _ (t : ProgramTree) (types : List Ty) (nodes : List Node) (ty_of at : List ℕ) (faults : scope_faults t ≡ []) (c : IsCopyOf t types nodes ty_of at) where

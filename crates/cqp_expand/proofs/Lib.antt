@@ -66,6 +66,7 @@ pub mod Tasks
 pub mod Templates
 pub mod TypeSteps
 pub mod TypeTables
+pub mod TypeWords
 pub mod TypeTests
 pub mod TypesOnce
 pub mod Weights

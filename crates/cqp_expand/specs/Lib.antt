@@ -21,3 +21,4 @@ pub mod Scopes
 pub mod Sizes
 pub mod Spread
 pub mod Tables
+pub mod TypeWords

@@ -15,7 +15,7 @@ use Rattle.cqp_expand.specs.Tables.{IsTable, Extends}
 
 -- the types with numbers
 abbrev pub table : Locals → List Ty
-table l = l.types.types.items
+table l = l.types.types
 
 -- a binder with its type as a tree
 abbrev pub seen : List Ty → code.Bound → Bound

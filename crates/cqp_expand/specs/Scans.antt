@@ -18,8 +18,8 @@ pub record IsScan (s : Scan) (ds : List DefinitionTree) : Type 0 where
 -- these definitions, the last one first, and this main process are scanned, with this least fault
 pub record AreScanned (ds : List DefinitionTree) (p : ProcessTree) (o : Option ScopeFault)
     (s : Scanned) : Type 0 where
-  pub table : IsTable s.types.types.items
-  pub outlines : AreOutlines s.types.types.items s.outlines.items (main_def p ∷ ds)
+  pub table : IsTable s.types.types
+  pub outlines : AreOutlines s.types.types s.outlines.items (main_def p ∷ ds)
   pub fault : s.least ≡ o
 
 -- the outlines are those of the program's definitions and of its main process, in order; the fault

@@ -15,8 +15,8 @@ use crate::known::Known;
 use crate::locals::Locals;
 use crate::outline::{Member, Outline};
 use crate::sizes::{count, starts_of};
+use cqp_lists::List;
 use cqp_program::{Param, Tree};
-use cqp_syntax::Names;
 use std::alloc::Global;
 
 impl<'a> Locals<'a> {
@@ -55,7 +55,7 @@ impl<'a> Locals<'a> {
         ensures { self.new ≡ emptied self.old }
     {
         self.scope.leave(0);
-        self.ty_of = Names::new(self.alloc);
+        self.ty_of = List::new(self.alloc);
     }
 
     /// Hands out the types of the names.
@@ -63,7 +63,7 @@ impl<'a> Locals<'a> {
         ensures types { result.items ≡ self.old.ty_of }
         ensures rest { self.new ≡ record self.old { ty_of = [] } }
     {
-        let none = Names::new(self.alloc);
+        let none = List::new(self.alloc);
         std::mem::replace(&mut self.ty_of, none).into_vec()
     }
 }

@@ -21,6 +21,7 @@ mod scan;
 mod scope;
 mod sizes;
 mod spread;
+mod type_list;
 mod types;
 
 pub use cqp_outside::NoMemory;

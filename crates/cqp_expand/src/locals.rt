@@ -11,6 +11,7 @@ use crate::NoMemory;
 use crate::fault::{FaultKind, ScopeFault, lesser};
 use crate::scope::{Bound, Scope};
 use crate::types::TypeTable;
+use cqp_lists::List;
 use cqp_program::Occ;
 use cqp_syntax::Names;
 use std::alloc::{AllocError, Global};
@@ -25,7 +26,7 @@ pub(crate) struct Locals<'a> {
     pub(crate) least: Option<ScopeFault>,
     pub(crate) scope: Scope<'a>,
     /// The number of the type of each of the body's names so far.
-    pub(crate) ty_of: Names,
+    pub(crate) ty_of: List<u32>,
 }
 
 impl<'a> Locals<'a> {
@@ -39,7 +40,7 @@ impl<'a> Locals<'a> {
             types: TypeTable::new(alloc),
             least: None,
             scope: Scope::new(alloc),
-            ty_of: Names::new(alloc),
+            ty_of: List::new(alloc),
         }
     }
 

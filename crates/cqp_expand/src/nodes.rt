@@ -171,7 +171,5 @@ pub(crate) fn add(left: u32, right: u32) -> Node
 fn copied(alloc: Global, names: &Names) -> Result<Names, NoMemory>
     ensures { IfOk result (λ ns. ns ≡ names.now) }
 {
-    let mut copy = Vec::new(alloc);
-    copy.extend_from_slice(names.as_slice())?;
-    Ok(Names::from_vec(copy))
+    Names::from_slice(alloc, names.as_slice())
 }

@@ -75,7 +75,7 @@ fn alone(alloc: Global, outline: Outline) -> Result<Lists, NoMemory>
 fn nodes_of(alloc: Global, members: Vec<Member>) -> Result<Nodes, NoMemory>
     ensures { IfOk result (λ nodes. nodes ≡ own_nodes members.items) }
 {
-    let mut nodes = Nodes::new(alloc);
+    let mut nodes = Nodes::with_capacity(alloc, members.len())?;
     for member in members {
         add(&mut nodes, member)?;
     }

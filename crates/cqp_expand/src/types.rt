@@ -8,6 +8,7 @@ ghost use Rattle.cqp_program.specs.Listing.{ty_tree};
 ghost use Rattle.cqp_expand.specs.Tables.{IsTable, Extends, renumbered};
 
 use crate::NoMemory;
+use crate::type_list::TypeList;
 use cqp_program::TyTree;
 use cqp_syntax::{Names, Ty};
 use smallvec::{SmallVec, smallvec};
@@ -17,36 +18,36 @@ use std::alloc::{AllocError, Global};
 #[derive(Drop)]
 pub(crate) struct TypeTable {
     alloc: Global,
-    types: Vec<Ty>,
+    types: TypeList,
 }
 
 impl TypeTable {
     /// No types. It takes no memory.
     pub(crate) fn new(alloc: Global) -> TypeTable
-        ensures empty { result.types.items ≡ [] }
-        ensures table { IsTable result.types.items }
+        ensures empty { result.types ≡ [] }
+        ensures table { IsTable result.types }
     {
         TypeTable {
             alloc,
-            types: Vec::new(alloc),
+            types: TypeList::new(alloc),
         }
     }
 
     pub(crate) fn into_types(self) -> Vec<Ty>
-        ensures { result.items ≡ self.types.items }
+        ensures { result.items ≡ self.types }
     {
-        self.types
+        self.types.into_vec()
     }
 
     /// The number of a type. Its parts get numbers from the last to the first.
     pub(crate) fn number_of(&mut self, ty: &TyTree) -> Result<u32, NoMemory>
-        requires table { IsTable self.old.types.items }
+        requires table { IsTable self.old.types }
         requires tree { (t : TypeTree) × (ty.now ≡ ty_tree t) }
-        ensures table { OnOk result (IsTable self.new.types.items) }
-        ensures extends { OnOk result (Extends self.old.types.items self.new.types.items) }
-        ensures below { IfOk result (λ n. n < length self.new.types.items) }
+        ensures table { OnOk result (IsTable self.new.types) }
+        ensures extends { OnOk result (Extends self.old.types self.new.types) }
+        ensures below { IfOk result (λ n. n < length self.new.types) }
         ensures is { (t : TypeTree) → ty.now ≡ ty_tree t
-            → IfOk result (λ n. type_at self.new.types.items n ≡ t) }
+            → IfOk result (λ n. type_at self.new.types n ≡ t) }
     {
         let parts = ty.nodes.as_slice();
         let mut numbers: SmallVec<u32, 4> = smallvec![in self.alloc; 0; parts.len()]?;
@@ -61,11 +62,11 @@ impl TypeTable {
 
     /// The number of `Qbit`.
     pub(crate) fn qbit(&mut self) -> Result<u32, NoMemory>
-        requires { IsTable self.old.types.items }
-        ensures table { OnOk result (IsTable self.new.types.items) }
-        ensures extends { OnOk result (Extends self.old.types.items self.new.types.items) }
-        ensures below { IfOk result (λ n. n < length self.new.types.items) }
-        ensures is { IfOk result (λ n. type_at self.new.types.items n ≡ qbit_type) }
+        requires { IsTable self.old.types }
+        ensures table { OnOk result (IsTable self.new.types) }
+        ensures extends { OnOk result (Extends self.old.types self.new.types) }
+        ensures below { IfOk result (λ n. n < length self.new.types) }
+        ensures is { IfOk result (λ n. type_at self.new.types n ≡ qbit_type) }
     {
         self.number(Ty::Qbit)
     }
@@ -73,39 +74,24 @@ impl TypeTable {
     /// The number of a type with these parts, which stands last where it is new. A table that is
     /// full answers `NoMemory`.
     fn number(&mut self, ty: Ty) -> Result<u32, NoMemory>
-        requires table { IsTable self.old.types.items }
-        requires parts { AllByRecursion (λ k. k < length self.old.types.items) (parts_of ty) }
-        ensures table { OnOk result (IsTable self.new.types.items) }
-        ensures extends { OnOk result (Extends self.old.types.items self.new.types.items) }
-        ensures below { IfOk result (λ n. n < length self.new.types.items) }
-        ensures is { IfOk result (λ n. type_at self.new.types.items n
-            ≡ tree_of (type_at self.old.types.items) ty) }
+        requires table { IsTable self.old.types }
+        requires parts { AllByRecursion (λ k. k < length self.old.types) (parts_of ty) }
+        ensures table { OnOk result (IsTable self.new.types) }
+        ensures extends { OnOk result (Extends self.old.types self.new.types) }
+        ensures below { IfOk result (λ n. n < length self.new.types) }
+        ensures is { IfOk result (λ n. type_at self.new.types n
+            ≡ tree_of (type_at self.old.types) ty) }
     {
-        if let Some(index) = index_of(self.types.as_slice(), &ty) {
+        if let Some(index) = self.types.find(self.alloc, &ty)? {
             return Ok(index as u32);
         }
         let number = self.types.len();
         if number >= u32::MAX as usize {
             return Err(AllocError);
         }
-        self.types.push(ty)?;
+        self.types.push(self.alloc, ty)?;
         Ok(number as u32)
     }
-}
-
-/// The index of a type among others.
-fn index_of(types: &[Ty], ty: &Ty) -> Option<usize>
-    ensures found { IfSome result (λ n. slice_get types.now n ≡ Some ty.now) }
-    ensures missing { IfNone result ((n : ℕ) → slice_get types.now n ≡ Some ty.now → ⊥) }
-{
-    let mut next = 0;
-    while next < types.len() {
-        if same(&types[next], ty) {
-            return Some(next);
-        }
-        next += 1;
-    }
-    None
 }
 
 /// A type of a tree, with the numbers of its parts.
@@ -135,16 +121,4 @@ fn chosen(alloc: Global, parts: &[u32], numbers: &[u32]) -> Result<Names, NoMemo
         chosen.push(numbers[*part as usize])?;
     }
     Ok(chosen)
-}
-
-/// Whether two types with numbered parts are one.
-fn same(left: &Ty, right: &Ty) -> bool
-    ensures { IsTrue result ↔ (left.now ≡ right.now) }
-{
-    match (left, right) {
-        (Ty::Int, Ty::Int) | (Ty::Unit, Ty::Unit) | (Ty::Qbit, Ty::Qbit) => true,
-        (Ty::Op { places }, Ty::Op { places: other }) => places == other,
-        (Ty::Chan { of }, Ty::Chan { of: other }) => of == other,
-        _ => false,
-    }
 }

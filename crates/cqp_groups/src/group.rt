@@ -16,7 +16,7 @@ ghost use Rattle.cqp_machine.specs.Factors.{factor_of, level_of, new_group, stat
 ghost use Rattle.cqp_machine.specs.Factors.{with_due};
 
 use crate::outcome::{has_outcome, outcome_in};
-use crate::places::{due_of, places_in};
+use crate::places::{Places, due_of, places_in};
 use cqp_ring::Root;
 use cqp_syntax::{Names, Op};
 use cqp_vector::{Factor, FactorList, NoMemory, Odds};
@@ -109,7 +109,7 @@ impl Group {
     }
 
     /// The places of some qubits in the list.
-    pub fn places(&self, alloc: Global, qubits: &[u32]) -> Result<Vec<u32>, NoMemory>
+    pub fn places(&self, alloc: Global, qubits: &[u32]) -> Result<Places, NoMemory>
         ensures { IfOk result (λ v. v.items ≡ words.places_in self.now.qubits qubits.now) }
     {
         places_in(alloc, self.factor.qubits(), qubits)
@@ -171,7 +171,7 @@ impl Group {
         ensures err { OnErr result (self.new ≡ self.old) }
     {
         let places = self.places(alloc, qubits)?;
-        let due = Names::from_vec(qubits.to_vec(alloc)?);
+        let due = Names::from_slice(alloc, qubits)?;
         self.measured_at(due, places.as_slice(), outcome);
         Ok(())
     }
@@ -218,7 +218,7 @@ impl Group {
     }
 
     // The same at the due qubits' places.
-    fn split_at(self, alloc: Global, places: Vec<u32>) -> Result<FactorList, Group>
+    fn split_at(self, alloc: Global, places: Places) -> Result<FactorList, Group>
         requires rightly { SplitsRightly self.due self }
         requires places { places.items ≡ words.places_in self.qubits self.due }
         ensures ok { IfOk result (λ list. list ≡ words.split_pieces self.due self) }

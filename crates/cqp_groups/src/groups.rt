@@ -126,7 +126,7 @@ impl Groups {
         ensures err { OnErr result (self.new ≡ self.old) }
     {
         let places = self.places(alloc, group, qubits)?;
-        let due = Names::from_vec(qubits.to_vec(alloc)?);
+        let due = Names::from_slice(alloc, qubits)?;
         self.measured_at(group, due, places.as_slice(), outcome);
         Ok(())
     }

@@ -12,3 +12,4 @@ mod readings;
 pub use group::{Group, PairRefused};
 pub use groups::Groups;
 pub use laws::{call_laws, run_laws, sum_laws};
+pub use places::Places;

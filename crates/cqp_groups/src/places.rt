@@ -5,7 +5,11 @@ ghost use Rattle.cqp_machine.specs.Factors as words;
 
 use cqp_syntax::Names;
 use cqp_vector::NoMemory;
+use smallvec::SmallVec;
 use std::alloc::Global;
+
+/// Places of qubits in a list. Those of a gate stand in the value itself.
+pub type Places = SmallVec<u32, 4>;
 
 /// The place of a qubit in the list; where it isn't there, the list's length.
 pub(crate) fn index_of(qubits: &[u32], qubit: u32) -> u32
@@ -23,11 +27,11 @@ pub(crate) fn index_of(qubits: &[u32], qubit: u32) -> u32
 }
 
 /// The places of some qubits.
-pub(crate) fn places_in(alloc: Global, qubits: &[u32], some: &[u32]) -> Result<Vec<u32>, NoMemory>
+pub(crate) fn places_in(alloc: Global, qubits: &[u32], some: &[u32]) -> Result<Places, NoMemory>
     requires few { length qubits.now ≤ 12 }
     ensures { IfOk result (λ v. v.items ≡ words.places_in qubits.now some.now) }
 {
-    let mut places = Vec::new(alloc);
+    let mut places = Places::new(alloc);
     for qubit in some {
         places.push(index_of(qubits, *qubit))?;
     }
@@ -63,7 +67,7 @@ pub(crate) fn due_of(qubits: &[u32], measured: Names) -> Names
 fn emptied(names: Names) -> Names
     ensures { result ≡ [] }
 {
-    let mut items = names.into_vec();
-    items.clear();
-    Names::from_vec(items)
+    let mut names = names;
+    names.clear();
+    names
 }

@@ -12,6 +12,7 @@ ghost use Rattle.cqp_groups.specs.Groups.{ArePlacesOf, CanGateAt, CanMeasure, as
 ghost use Rattle.cqp_groups.specs.States.{IsChange, IsGate};
 
 use crate::groups::Groups;
+use crate::places::Places;
 use cqp_syntax::{Names, Op};
 use cqp_vector::NoMemory;
 use std::alloc::Global;
@@ -19,13 +20,13 @@ use std::alloc::Global;
 impl Groups {
     /// The places of qubits in a group's list; where there is no group, no place. An `Err` comes
     /// for want of memory alone.
-    pub fn places(&self, alloc: Global, group: u32, qubits: &[u32]) -> Result<Vec<u32>, NoMemory>
+    pub fn places(&self, alloc: Global, group: u32, qubits: &[u32]) -> Result<Places, NoMemory>
         requires { group < length self.now }
         ensures { IfOk result (λ v. ArePlacesOf self.now group qubits.now v.items) }
     {
         match &self.slots[group as usize] {
             Some(held) => held.places(alloc, qubits),
-            None => Ok(Vec::new(alloc)),
+            None => Ok(Places::new(alloc)),
         }
     }
 

@@ -2,8 +2,10 @@
 #![tactic(auto)]
 
 mod list;
+mod short;
 
 pub use list::List;
+pub use short::ShortList;
 use std::alloc::AllocError;
 
 /// Want of memory.

@@ -77,10 +77,9 @@ fn output<'a>(
     requires { length parts.now ≡ args + 1 }
     ensures { IfOk result (λ node. node ≡ node_with (Out chan.entry args) parts.now) }
 {
-    let numbers = Vec::from_slice(alloc, &parts[..args])?;
     Ok(TreeNode::Out {
         chan,
-        args: Names::from_vec(numbers),
+        args: Names::from_slice(alloc, &parts[..args])?,
         body: parts[args],
     })
 }

@@ -268,7 +268,7 @@ impl Cells {
         if !self.groups.has_outcome(group, places.as_slice(), outcome) {
             return Ok(false);
         }
-        let due = Names::from_vec(qubits.to_vec(alloc)?);
+        let due = Names::from_slice(alloc, qubits)?;
         self.make_parts(tables, alloc, n, deed)?;
         self.groups
             .measured_at(group, due, places.as_slice(), outcome);

@@ -19,7 +19,7 @@ pub(crate) fn put_line(bytes: &mut Vec<u8>, entry: &Entry) -> Result<(), NoMemor
     bytes.extend_from_slice(b"\n")
 }
 
-// The text of an entry.
+/// The text of an entry.
 fn put_entry(bytes: &mut Vec<u8>, entry: &Entry) -> Result<(), NoMemory>
     ensures { OnOk result (bytes.new.items ≡ bytes.old.items ++ entry_text entry.now) }
 {
@@ -28,7 +28,7 @@ fn put_entry(bytes: &mut Vec<u8>, entry: &Entry) -> Result<(), NoMemory>
     put_deed(bytes, &entry.deed)
 }
 
-// The text of a deed.
+/// The text of a deed.
 fn put_deed(bytes: &mut Vec<u8>, deed: &Deed) -> Result<(), NoMemory>
     ensures { OnOk result (bytes.new.items ≡ bytes.old.items ++ deed_text deed.now) }
 {
@@ -56,7 +56,7 @@ fn put_deed(bytes: &mut Vec<u8>, deed: &Deed) -> Result<(), NoMemory>
     }
 }
 
-// Numbers, each behind a space.
+/// Numbers, each behind a space.
 fn put_all(bytes: &mut Vec<u8>, numbers: &[u32]) -> Result<(), NoMemory>
     ensures { OnOk result (bytes.new.items ≡ bytes.old.items ++ spaced numbers.now) }
 {
@@ -66,7 +66,7 @@ fn put_all(bytes: &mut Vec<u8>, numbers: &[u32]) -> Result<(), NoMemory>
     Ok(())
 }
 
-// A word and the name of a gate.
+/// A word and the name of a gate.
 fn put_op(bytes: &mut Vec<u8>, word: &[u8], op: Op) -> Result<(), NoMemory>
     ensures { OnOk result (bytes.new.items ≡ bytes.old.items ++ (word.now ++ op_text op)) }
 {
@@ -74,7 +74,7 @@ fn put_op(bytes: &mut Vec<u8>, word: &[u8], op: Op) -> Result<(), NoMemory>
     bytes.extend_from_slice(op.name().as_bytes())
 }
 
-// A word and a number.
+/// A word and a number.
 fn put_with(bytes: &mut Vec<u8>, word: &[u8], number: u32) -> Result<(), NoMemory>
     ensures { OnOk result (bytes.new.items ≡ bytes.old.items ++ (word.now ++ decimal number)) }
 {
@@ -82,9 +82,13 @@ fn put_with(bytes: &mut Vec<u8>, word: &[u8], number: u32) -> Result<(), NoMemor
     put_number(bytes, number)
 }
 
-// A number.
+/// A number. One of one digit is its byte.
 fn put_number(bytes: &mut Vec<u8>, number: u32) -> Result<(), NoMemory>
     ensures { OnOk result (bytes.new.items ≡ bytes.old.items ++ decimal number) }
 {
+    if number < 10 {
+        bytes.push(b'0' + number as u8)?;
+        return Ok(());
+    }
     bytes.extend_from_slice(Buffer::new().format(number).as_bytes())
 }

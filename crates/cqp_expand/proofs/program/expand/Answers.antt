@@ -33,13 +33,13 @@ spread-requires c =
     let count = last_count tree.0 c.in_ok-scanned.scanned scan c.in_default.is c.as_slice-outlines.result.now c.index-outlines-main.result
     c.as_slice-outlines.ensures.value in
     let small = small_count _ _ count c.if-outlines-main-gt-MOST.false in
-    (tree.0, c.in_ok-scanned.scanned.types.types.items, is_small tree.0 c.in_ok-scanned.scanned scan c.in_default.is small)
+    (tree.0, c.in_ok-scanned.scanned.types.types, is_small tree.0 c.in_ok-scanned.scanned scan c.in_default.is small)
 
 pub make-requires-clause-listed : goal.make-requires-clause-listed
 make-requires-clause-listed c =
     let tree = c.in_ok-scanned.ensures.listed in
     let scan = c.in_ok-scanned.ensures.scan tree.0 tree.1 in
-    let types = c.in_ok-scanned.scanned.types.types.items in
+    let types = c.in_ok-scanned.scanned.types.types in
     let count = last_count tree.0 c.in_ok-scanned.scanned scan c.in_default.is c.as_slice-outlines.result.now c.index-outlines-main.result
     c.as_slice-outlines.ensures.value in
     let small = small_count _ _ count c.if-outlines-main-gt-MOST.false in
@@ -51,7 +51,7 @@ pub make-requires-clause-sound : goal.make-requires-clause-sound
 make-requires-clause-sound c =
     let tree = c.in_ok-scanned.ensures.listed in
     let scan = c.in_ok-scanned.ensures.scan tree.0 tree.1 in
-    let types = c.in_ok-scanned.scanned.types.types.items in
+    let types = c.in_ok-scanned.scanned.types.types in
     let count = last_count tree.0 c.in_ok-scanned.scanned scan c.in_default.is c.as_slice-outlines.result.now c.index-outlines-main.result
     c.as_slice-outlines.ensures.value in
     let small = small_count _ _ count c.if-outlines-main-gt-MOST.false in
@@ -62,7 +62,7 @@ make-requires-clause-sound c =
 pub returns-clause-ok : goal.returns-clause-ok
 returns-clause-ok c = λ t h.
     let scan = c.in_ok-scanned.ensures.scan t h in
-    let types = c.in_ok-scanned.scanned.types.types.items in
+    let types = c.in_ok-scanned.scanned.types.types in
     let count = last_count t c.in_ok-scanned.scanned scan c.in_default.is c.as_slice-outlines.result.now c.index-outlines-main.result
     c.as_slice-outlines.ensures.value in
     let small = small_count _ _ count c.if-outlines-main-gt-MOST.false in

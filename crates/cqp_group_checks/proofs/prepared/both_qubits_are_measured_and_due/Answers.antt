@@ -14,12 +14,12 @@ has_outcome-possible-requires-clause-number g c = made _ (Some bell) None c.in_o
 pub has_outcome-possible-requires-clause-places : goal.has_outcome-possible-requires-clause-places
 has_outcome-possible-requires-clause-places g c =
     both_places c.in_ok-groups.groups c.as_slice.result.now c.in_ok-groups.ensures
-    (subst (ArePlacesOf c.in_ok-groups.groups 0 (0 ∷ 1 ∷ [])) (sym c.as_slice.ensures.value) c.in_ok-places.ensures)
+    (subst (ArePlacesOf c.in_ok-groups.groups 0 (0 ∷ 1 ∷ [])) (sym c.as_slice.ensures) c.in_ok-places.ensures)
 
 pub has_outcome-other-requires-clause-places : goal.has_outcome-other-requires-clause-places
 has_outcome-other-requires-clause-places g c =
     both_places c.in_ok-groups.groups c.as_slice-2.result.now c.in_ok-groups.ensures
-    (subst (ArePlacesOf c.in_ok-groups.groups 0 (0 ∷ 1 ∷ [])) (sym c.as_slice-2.ensures.value) c.in_ok-places.ensures)
+    (subst (ArePlacesOf c.in_ok-groups.groups 0 (0 ∷ 1 ∷ [])) (sym c.as_slice-2.ensures) c.in_ok-places.ensures)
 
 pub measured_at-requires-clause-can : goal.measured_at-requires-clause-can
 measured_at-requires-clause-can g c =

@@ -13,11 +13,11 @@ places-requires c = made _ (Some bell) None c.in_ok-groups.ensures
 pub gate_at-requires : goal.gate_at-requires
 gate_at-requires c =
     may_flip c.in_ok-groups.groups c.as_slice.result.now c.in_ok-groups.ensures
-    (subst (ArePlacesOf c.in_ok-groups.groups 0 (1 ∷ [])) (sym c.as_slice.ensures.value) c.in_ok-places.ensures)
+    (subst (ArePlacesOf c.in_ok-groups.groups 0 (1 ∷ [])) (sym c.as_slice.ensures) c.in_ok-places.ensures)
 
 pub returns : goal.returns
 returns c =
     gate_leaves c.in_ok-groups.groups c.gate_at.new.self bell None op.X (1 ∷ []) c.in_ok-groups.ensures
     (c.gate_at.ensures.value (1 ∷ [])
-    (subst (ArePlacesOf c.in_ok-groups.groups 0 (1 ∷ [])) (sym c.as_slice.ensures.value) c.in_ok-places.ensures))
+    (subst (ArePlacesOf c.in_ok-groups.groups 0 (1 ∷ [])) (sym c.as_slice.ensures) c.in_ok-places.ensures))
     c.gate_at.ensures.made

@@ -37,7 +37,7 @@ gate_at-requires c =
     let can = can_gate l c.requires.run.0 s c.requires.run.1 c.requires.seen laws.groups gate.group gate.qubits.now c.requires.gathered laws.gate laws.levels
     c.args.n gate.op c.requires.room may in
     let same = c.in_ok-make_parts.ensures.groups.groups in
-    let at = subst (ArePlacesOf s.groups gate.group gate.qubits.now) (sym c.as_slice.ensures.value) c.in_ok-places.ensures in
+    let at = subst (ArePlacesOf s.groups gate.group gate.qubits.now) (sym c.as_slice.ensures) c.in_ok-places.ensures in
     subst (λ z. CanGateAt z gate.group gate.op c.as_slice.result.now) (sym same) (record { qubits = gate.qubits.now; can = can; at = at })
 
 pub returns-clause-ok : goal.returns-clause-ok
@@ -55,7 +55,7 @@ returns-clause-ok c entries k =
     let new = c.gate_at.new.self in
     let t = record u { groups = new } in
     let fits = gate_fits l entries s k c.requires.seen laws.groups gate.group qs c.requires.gathered laws.levels gate.op c.requires.room in
-    let at = subst (ArePlacesOf s.groups gate.group qs) (sym c.as_slice.ensures.value) c.in_ok-places.ensures in
+    let at = subst (ArePlacesOf s.groups gate.group qs) (sym c.as_slice.ensures) c.in_ok-places.ensures in
     let at_now = subst (λ z. ArePlacesOf z gate.group qs c.as_slice.result.now) (sym same.groups) at in
     let groups = c.gate_at.ensures.value qs at_now ∙ ap (λ z. groups_by (as_cells z) d gate.group) same.groups in
     let places = c.gate_at.ensures.made ∙ ap length same.groups in

@@ -20,7 +20,7 @@ has_outcome-requires-clause-places c g there =
     let l = c.args.tables.now in
     let s = c.args.self.now in
     let of = c.args.measured in
-    let at = subst (ArePlacesOf s.groups of.group of.qubits.now) (sym c.as_slice.ensures.value) c.in_ok-places.ensures in
+    let at = subst (ArePlacesOf s.groups of.group of.qubits.now) (sym c.as_slice.ensures) c.in_ok-places.ensures in
     measure_places l c.requires.run.0 s c.requires.run.1 c.requires.seen c.make_laws.ensures.groups of.group of.qubits.now c.requires.gathered.gathered
     c.args.n of.outcome (subst (MayMake l s c.args.n) c.requires.is c.requires.may) c.as_slice.result.now at g there
 
@@ -29,7 +29,7 @@ returns-then-not-has_outcome-clause-not c not =
     let s = c.args.self.now in
     let of = c.args.measured in
     let x = c.requires.gathered.gathered in
-    let at = subst (ArePlacesOf s.groups of.group of.qubits.now) (sym c.as_slice.ensures.value) c.in_ok-places.ensures in
+    let at = subst (ArePlacesOf s.groups of.group of.qubits.now) (sym c.as_slice.ensures) c.in_ok-places.ensures in
     let is : c.has_outcome.result ≡ false = search rules in (
       λ g there. ap (λ ps. is_outcome ps (state_of g) of.outcome) (sym (at g there)) ∙ (sym (c.has_outcome.ensures g there) ∙ is),
       refl,
@@ -46,7 +46,7 @@ make_parts-requires c =
     let d = deed.Measure of.qubits.now of.outcome in
     let may = subst (MayMake l s c.args.n) c.requires.is c.requires.may in
     let x = c.requires.gathered.gathered in
-    let at = subst (ArePlacesOf s.groups of.group of.qubits.now) (sym c.as_slice.ensures.value) c.in_ok-places.ensures in
+    let at = subst (ArePlacesOf s.groups of.group of.qubits.now) (sym c.as_slice.ensures) c.in_ok-places.ensures in
     let is : c.has_outcome.result ≡ true = search rules in
     let likely = likely_there l entries s k c.requires.seen laws.groups of.group of.qubits.now x of.outcome c.as_slice.result.now c.has_outcome.result at
     c.has_outcome.ensures ∙ is in
@@ -62,14 +62,14 @@ measured_at-requires-clause-can c =
     let of = c.args.measured in
     let may = subst (MayMake l s c.args.n) c.requires.is c.requires.may in
     let x = c.requires.gathered.gathered in
-    let at = subst (ArePlacesOf s.groups of.group of.qubits.now) (sym c.as_slice.ensures.value) c.in_ok-places.ensures in
+    let at = subst (ArePlacesOf s.groups of.group of.qubits.now) (sym c.as_slice.ensures) c.in_ok-places.ensures in
     let is : c.has_outcome.result ≡ true = search rules in
     let likely = likely_there l c.requires.run.0 s c.requires.run.1 c.requires.seen laws.groups of.group of.qubits.now x of.outcome c.as_slice.result.now
     c.has_outcome.result at c.has_outcome.ensures ∙ is in
     let can = can_measure l c.requires.run.0 s c.requires.run.1 c.requires.seen laws.groups of.group of.qubits.now x laws.measure c.args.n of.outcome
     likely may in
-    let due : c.from_vec-due.result ≡ of.qubits.now = search rules in
-    subst (λ z. CanMeasure z of.group c.from_vec-due.result of.outcome) (sym c.in_ok-make_parts.ensures.groups.groups)
+    let due : c.in_ok-due.due ≡ of.qubits.now = search rules in
+    subst (λ z. CanMeasure z of.group c.in_ok-due.due of.outcome) (sym c.in_ok-make_parts.ensures.groups.groups)
     (subst (λ z. CanMeasure s.groups of.group z of.outcome) (sym due) can)
 
 pub returns-clause-made : goal.returns-clause-made
@@ -83,11 +83,11 @@ returns-clause-made c is_made entries k =
     let d = deed.Measure qs of.outcome in
     let may = subst (MayMake l s c.args.n) c.requires.is c.requires.may in
     let x = c.requires.gathered.gathered in
-    let at = subst (ArePlacesOf s.groups of.group qs) (sym c.as_slice.ensures.value) c.in_ok-places.ensures in
+    let at = subst (ArePlacesOf s.groups of.group qs) (sym c.as_slice.ensures) c.in_ok-places.ensures in
     let is : c.has_outcome.result ≡ true = search rules in
     let likely = likely_there l entries s k c.requires.seen laws.groups of.group qs x of.outcome c.as_slice.result.now c.has_outcome.result at
     c.has_outcome.ensures ∙ is in
-    let due : c.from_vec-due.result ≡ qs = search rules in
+    let due : c.in_ok-due.due ≡ qs = search rules in
     let told = subst (HasMadeParts l s u c.args.n) c.requires.is c.in_ok-make_parts.ensures.made in
     let same = c.in_ok-make_parts.ensures.groups in
     let new = c.measured_at.new.self in

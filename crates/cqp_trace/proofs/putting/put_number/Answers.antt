@@ -1,0 +1,8 @@
+use Rattle.std.proofs.Common.{◌∙◌, ◌++◌, sym, ap}
+use Rattle.std.proofs.lemmas.Fmt.{decimal_digit}
+use Rattle.cqp_trace.proofs.putting.put_number.Goals as goal
+
+pub returns-then-number-lt10 : goal.returns-then-number-lt10
+returns-then-number-lt10 c =
+    c.in_ok-push.ensures.items
+    ∙ ap (λ ds. c.args.bytes.now.items ++ ds) (sym (decimal_digit c.args.number c.if-number-lt10.true))
