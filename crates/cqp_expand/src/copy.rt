@@ -54,7 +54,7 @@ pub(crate) fn copied(alloc: Global, outlines: &[Outline], def: usize) -> Result<
     ensures { (t : ProgramTree) (types : List Ty) → IsSmall t types outlines.now
         → IfOk result (λ c. IsCopyOf t types c.nodes c.ty_of c.at) }
 {
-    let mut copier = Copier::new(alloc);
+    let mut copier = Copier::with_room(alloc, outlines[def].count as usize)?;
     copier.begin(def, 0, 0)?;
     while let Some(instance) = copier.instances.pop() {
         let outline = &outlines[instance.def];
@@ -67,19 +67,19 @@ pub(crate) fn copied(alloc: Global, outlines: &[Outline], def: usize) -> Result<
 }
 
 impl Copier {
-    /// Nothing. It takes no memory.
-    fn new(alloc: Global) -> Copier
-        ensures { shown result
-            ≡ record { instances = []; numbers = []; nodes = []; ty_of = []; at = [] } }
+    /// Nothing, with room for so many nodes.
+    fn with_room(alloc: Global, nodes: usize) -> Result<Copier, NoMemory>
+        ensures { IfOk result (λ c. shown c
+            ≡ record { instances = []; numbers = []; nodes = []; ty_of = []; at = [] }) }
     {
-        Copier {
+        Ok(Copier {
             alloc,
             instances: Vec::new(alloc),
             numbers: Vec::new(alloc),
-            nodes: Nodes::new(alloc),
+            nodes: Nodes::with_capacity(alloc, nodes)?,
             ty_of: Names::new(alloc),
-            at: Names::new(alloc),
-        }
+            at: Names::with_capacity(alloc, nodes)?,
+        })
     }
 
     /// Begins a copy of a definition.

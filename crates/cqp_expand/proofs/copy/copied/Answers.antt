@@ -9,7 +9,7 @@ use Rattle.cqp_expand.proofs.copy.copied.Goals as goal
 pub loop-instance-init : goal.loop-instance-init
 loop-instance-init c = λ t types s.
     subst (IsGoing t types c.args.outlines.now) (sym (c.in_ok-begin.ensures
-    ∙ ap (begun c.args.def 0 0) c.new-copier.ensures)) (going_first t types c.args.outlines.now s c.args.def c.requires.last)
+    ∙ ap (begun c.args.def 0 0) c.in_ok-copier.ensures)) (going_first t types c.args.outlines.now s c.args.def c.requires.last)
 
 pub bounds-outlines-instance : goal.bounds-outlines-instance
 bounds-outlines-instance c =
@@ -40,8 +40,8 @@ loop-instance-preserved c = λ t types s.
     c.in-Some.ensures.items here
     (omega (arith, c.if-instance-len.false, c.len.ensures, c.index-outlines-instance.result.members.ok.0))
 
-pub loop-instance-smaller-in-Continue-branch-3 : goal.loop-instance-smaller-in-Continue-branch-3
-loop-instance-smaller-in-Continue-branch-3 c =
+pub loop-instance-smaller-in-Continue-branch-4 : goal.loop-instance-smaller-in-Continue-branch-4
+loop-instance-smaller-in-Continue-branch-4 c =
     let k = c.requires.known in
     let outlines = c.args.outlines.now in
     let d = c.index-outlines-instance.result in
@@ -57,8 +57,8 @@ loop-instance-smaller-in-Continue-branch-3 c =
     < turns_left outlines c.loop-instance.copier.instances.items = omega (arith, less, now, before) in
     fewer
 
-pub loop-instance-preserved-in-Continue-branch-3 : goal.loop-instance-preserved-in-Continue-branch-3
-loop-instance-preserved-in-Continue-branch-3 c = λ t types s.
+pub loop-instance-preserved-in-Continue-branch-4 : goal.loop-instance-preserved-in-Continue-branch-4
+loop-instance-preserved-in-Continue-branch-4 c = λ t types s.
     let outlines = c.args.outlines.now in
     let d = c.index-outlines-instance.result in
     let going = c.loop-instance.invariant t types s in

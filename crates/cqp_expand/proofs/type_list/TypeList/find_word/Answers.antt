@@ -1,7 +1,6 @@
-use Rattle.std.proofs.Common.{◌≡◌, ◌∙◌, ℕ, List, sym, ap, subst, Some, None, Option, refl, slice_get, bytes_eq}
+use Rattle.std.proofs.Common.{◌≡◌, ◌∙◌, ℕ, ap, subst, Some, slice_get, bytes_eq}
 use Rattle.std.specs.Prelude.{IfSome, IfNone}
 use Rattle.std.specs.List.{list_any, position}
-use Rattle.cqp_expand.specs.TypeWords.{type_word}
 use Rattle.cqp_expand.proofs.TypeWords.{found_word, lost_word}
 use Rattle.cqp_expand.proofs.type_list.TypeList.find_word.Goals as goal
 

@@ -2,7 +2,7 @@ use Rattle.std.proofs.Common.{◌≡◌, ◌∙◌, ℕ, List, sym, ap, subst, �
 use Rattle.std.specs.Prelude.{if◌then◌else◌}
 use Rattle.std.specs.List.{list_any}
 use Rattle.cqp_syntax.specs.declared.ty.Ty.{Ty}
-use Rattle.cqp_expand.specs.TypeWords.{AreWords, type_word}
+use Rattle.cqp_expand.specs.TypeWords.{type_word}
 use Rattle.cqp_expand.proofs.TypeWords.{words_more}
 use Rattle.cqp_expand.proofs.type_list.TypeList.push.Goals as goal
 

@@ -1,4 +1,4 @@
-use Rattle.std.proofs.Common.{◌≡◌, subst, sym}
+use Rattle.std.proofs.Common.{subst, sym}
 use Rattle.cqp_groups.specs.Groups.{ArePlacesOf, CanMeasure}
 use Rattle.cqp_groups.proofs.groups.Groups.measured.Goals as goal
 
